@@ -1,0 +1,4 @@
+pub mod Below
+pub mod Digits
+pub mod Only
+pub mod Picked

@@ -1,0 +1,1 @@
+// Definitions and laws that no one crate owns. There is no code here.
