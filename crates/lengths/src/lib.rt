@@ -1,0 +1,58 @@
+// Sets of preferred frame lengths, from source document 001 (manchester.rs).
+ghost use mathlib.Core.Path.{_≡_};
+ghost use mathlib.Core.List.{[], _∷_};
+ghost use Rattle.lengths.specs.Lengths.{holds, withLength, setOf, HoldsJust};
+
+// Bit n of the number stands for the length n.
+pub struct BitLengths(u32);
+
+impl BitLengths {
+    pub fn of(lengths: &[u8]) -> BitLengths
+        ensures { λ r. ⌜ r ≡ setOf (now (lengths .entry)) ⌝ }
+        ensures { λ r. ⌜ HoldsJust r (now (lengths .entry)) ⌝ }
+    {
+        let mut set = BitLengths(0);
+        let mut i = 0;
+        while i < lengths.len() {
+            set = set.with_length(lengths[i]);
+            i += 1;
+        }
+        set
+    }
+
+    fn with_length(self, length: u8) -> BitLengths
+        ensures { λ r. ⌜ r ≡ withLength self length ⌝ }
+    {
+        let mask = self.0;
+        if length < 32 {
+            let bit = 1u32 << length;
+            BitLengths(mask | bit)
+        } else {
+            self
+        }
+    }
+
+    pub fn contains(self, length: u8) -> bool
+        ensures { λ r. ⌜ r ≡ holds self length ⌝ }
+    {
+        let mask = self.0;
+        if length < 32 {
+            (mask >> length) % 2 == 1
+        } else {
+            false
+        }
+    }
+}
+
+// The lengths 8, 16 and 24. A constant can't call `of`, so the number stands here and `sniffed` says what it is.
+pub const SNIFFED_BIT_LENGTHS: BitLengths = BitLengths(0x0101_0100);
+
+pub const FORWARD24_BITS: u8 = 24;
+
+// Nobody calls this: its promise is what the constant means.
+fn sniffed() -> BitLengths
+    ensures { λ r. ⌜ r ≡ setOf (8 ∷ 16 ∷ 24 ∷ []) ⌝ }
+    ensures { λ r. ⌜ HoldsJust r (8 ∷ 16 ∷ 24 ∷ []) ⌝ }
+{
+    SNIFFED_BIT_LENGTHS
+}
