@@ -1,0 +1,4 @@
+pub mod Bytes
+pub mod Peeks
+pub mod Placing
+pub mod Turns

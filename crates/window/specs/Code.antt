@@ -1,0 +1,49 @@
+-- What the private functions promise, in the terms of "Window" and "One phase". No public promise cites this file. Assumes nothing.
+use Prim.Native.Nat.{ℕ, _+_, _-_, _*_, _/_, _%_, _^_, min}
+use mathlib.Core.List.{List, [], _∷_}
+use lib.Dec.{ltb, eqb}
+use lib.IntN.{ℤ}
+use lib.ListN.{length, getD}
+use Rattle.laws.specs.Packed.{packed}
+use Rattle.laws.specs.Pick.{pick}
+use Rattle.window.specs.declared.SampleWindow.{SampleWindow}
+use Rattle.window.specs.declared.PeekStop.{PeekStop}
+use Rattle.window.specs.declared.PeekStop.the-variants.{None, Idle, Held}
+use Rattle.window.specs.declared.PeekAround.{PeekAround}
+use Rattle.window.specs.declared.Reading.{Reading}
+use Rattle.window.specs.declared.PhaseRead.{PhaseRead}
+use Rattle.window.specs.declared.PhaseRead.the-variants as read
+use Rattle.window.specs.Phase.{peekOf, weightAround, strideAround, PhaseBits, held, bits, scoreOf, storedBits, dataBit}
+
+-- a byte of the window, or another past the pad
+unfoldable pub byteAt : SampleWindow → ℕ → ℕ → ℕ
+byteAt w k past = pick (ltb k (w .len)) (getD (w .bytes) k 0) past
+
+unfoldable pub stopOf : ℕ → PeekStop
+stopOf sample = pick (eqb sample 255) Idle (pick (eqb sample 0) Held None)
+
+unfoldable pub aroundOf : SampleWindow → ℤ → ℕ → PeekAround
+aroundOf w phase p =
+    record { weightmax = weightAround w phase p; pmax = strideAround w phase p; stop = stopOf (peekOf w phase (p + 1)) }
+
+abbrev pub reading : ℕ → ℕ → ℕ → Reading
+reading len score v = record { «bit_len» = len; score = score; bits = v }
+
+-- a phase's bits as the code keeps them: how many, their sum, and the stored ones as one number
+unfoldable pub summaryOf : PhaseBits → PhaseRead
+summaryOf held = read.Held
+summaryOf (bits weights) = read.Bits (reading (length weights) (scoreOf weights) (packed 2 (storedBits weights) (dataBit weights)))
+
+-- how many of the bits read so far are stored
+abbrev pub storedOf : ℕ → ℕ
+storedOf len = min (len - 1) 64
+
+unfoldable pub pushedOf : ℕ → ℕ → ℕ → ℕ
+pushedOf v len weight = pick (eqb len 0) v (pick (ltb 64 len) v (v * 2 + weight % 2))
+
+-- n bits, as one number, by bytes
+unfoldable pub placedOf : ℕ → ℕ → ℕ
+placedOf v n =
+    let whole = (n - 1) / 8 * 8 in
+    let rest = n - whole in
+    (v / 2 ^ rest * 256 + v % 2 ^ rest) * 2 ^ (56 - whole)

@@ -1,0 +1,335 @@
+// The window over a capture's samples and what one phase reads in it, from source document 001 (manchester.rs).
+ghost use mathlib.Core.Path.{_≡_};
+ghost use Prim.Native.Nat.{min, max, _+_, _-_, _^_, _≤_, _<_};
+ghost use lib.Dec.{ltb};
+ghost use lib.IntN.{pos, subℕ, _+ℤ_};
+ghost use Rattle.laws.specs.Pick.{pick};
+ghost use Rattle.window.specs.Window.{windowOf, emptyWindow, levelBefore, peekAt};
+ghost use Rattle.window.specs.Phase.{held, decodeOf, phaseOf, bitsOf, strideOf};
+ghost use Rattle.window.specs.Code.{byteAt, stopOf, aroundOf, summaryOf, storedOf, pushedOf, placedOf};
+
+// From source document 000 (fsm.rs), which stands above this crate.
+pub const DALI_RX_SAMPLE_BUF_LEN: usize = 64;
+
+pub const DECODED_BYTES: usize = 8;
+
+const WINDOW_LEN: usize = DALI_RX_SAMPLE_BUF_LEN + 2;
+
+const WINDOW_BITS_PER_SAMPLE: u16 = 8;
+
+const PEEK_IDLE: u8 = 0xFF;
+
+const PEEK_HELD: u8 = 0x00;
+
+// The bits that the data bytes have room for.
+const STORED_BITS: u8 = 64;
+
+// A phase lies at most this many ticks before the start. Positions in the code are counted from there, so that they are never negative.
+const EARLIEST: u16 = 128;
+
+enum PeekStop {
+    None,
+    Idle,
+    Held,
+}
+
+struct PeekAround {
+    weightmax: u8,
+    pmax: u16,
+    stop: PeekStop,
+}
+
+// What one phase has read: the bits with the start bit, their score, and the stored bits as one number.
+struct Reading {
+    bit_len: u8,
+    score: u16,
+    bits: u64,
+}
+
+enum PhaseRead {
+    Held,
+    Bits(Reading),
+}
+
+// The eight data bytes are one number, the first byte on top.
+pub struct PhaseDecode {
+    pub bit_len: u8,
+    pub phase_ticks: i8,
+    pub score: u16,
+    pub data: u64,
+}
+
+impl PhaseDecode {
+    fn failed(phase_ticks: i8) -> PhaseDecode
+        ensures { λ r. ⌜ r ≡ decodeOf «phase_ticks» held ⌝ }
+    {
+        PhaseDecode {
+            bit_len: 0,
+            phase_ticks,
+            score: 0,
+            data: 0,
+        }
+    }
+}
+
+pub struct SampleWindow {
+    bytes: [u8; WINDOW_LEN],
+    len: u16,
+    bits: u16,
+}
+
+impl SampleWindow {
+    pub const EMPTY: SampleWindow = SampleWindow {
+        bytes: [0; WINDOW_LEN],
+        len: 0,
+        bits: 0,
+    };
+
+    // Nobody calls this: its promise is what the constant means.
+    fn empty() -> SampleWindow
+        ensures { λ r. ⌜ r ≡ emptyWindow ⌝ }
+    {
+        SampleWindow::EMPTY
+    }
+
+    pub fn of_capture(samples: &[u8; DALI_RX_SAMPLE_BUF_LEN], sample_count: u16) -> SampleWindow
+        ensures { λ r. ⌜ r ≡ windowOf (now (samples .entry)) «sample_count» ⌝ }
+    {
+        let samples: &[u8] = samples;
+        let n = kept(sample_count);
+        let mut window = SampleWindow::EMPTY;
+        let mut i: usize = 0;
+        while i < n {
+            window.bytes[i] = samples[i];
+            i += 1;
+        }
+        window.bytes[n] = PEEK_IDLE;
+        window.len = (n + 1) as u16;
+        window.bits = n as u16 * WINDOW_BITS_PER_SAMPLE;
+        window
+    }
+
+    // The byte at a place, or what is asked for in its stead past the pad.
+    fn byte(self, pos: u16, past: u8) -> u8
+        ensures { λ r. ⌜ r ≡ byteAt self pos past ⌝ }
+    {
+        if self.len <= pos {
+            return past;
+        }
+        let i = pos as usize;
+        if WINDOW_LEN <= i {
+            return 0;
+        }
+        self.bytes[i]
+    }
+
+    // One tick of a peek that begins before the start.
+    fn sample_bit(self, at: u16) -> u8
+        ensures { λ r. ⌜ r ≡ levelBefore self (subℕ at 128) ⌝ }
+    {
+        if at < EARLIEST {
+            return self.byte(0, PEEK_IDLE) / 128;
+        }
+        let bitpos = at - EARLIEST;
+        if self.bits <= bitpos {
+            return 1;
+        }
+        let byte = self.byte(bitpos / 8, 0);
+        (byte >> (7 - bitpos % 8)) % 2
+    }
+
+    fn peek_before_start(self, at: u16) -> u8
+        requires { ⌜ at < 128 ⌝ }
+        ensures { λ r. ⌜ r ≡ peekAt self (subℕ at 128) ⌝ }
+    {
+        let mut sample: u8 = 0;
+        let mut offset: u16 = 0;
+        while offset < 8 {
+            sample = sample * 2 + self.sample_bit(at + offset);
+            offset += 1;
+        }
+        sample
+    }
+
+    // Eight ticks, the first on top.
+    fn peek8(self, at: u16) -> u8
+        requires { ⌜ at ≤ 1000 ⌝ }
+        ensures { λ r. ⌜ r ≡ peekAt self (subℕ at 128) ⌝ }
+    {
+        if at < EARLIEST {
+            return self.peek_before_start(at);
+        }
+        let shifted = at - EARLIEST;
+        let pos = shifted / 8;
+        if self.len <= pos {
+            return PEEK_IDLE;
+        }
+        let first = self.byte(pos, 0) as u16;
+        let next = self.byte(pos + 1, 0) as u16;
+        (((first * 256 + next) >> (8 - shifted % 8)) % 256) as u8
+    }
+
+    // The best of the centre, early and late peeks. The stop is the late one's alone.
+    fn weighted_peek_around(self, bitpos: u16, bias: u16) -> PeekAround
+        requires { ⌜ (1 ≤ bitpos) × (bitpos ≤ 600) × (bias ≤ 255) ⌝ }
+        ensures { λ r. ⌜ r ≡ aroundOf self (subℕ bias 128) bitpos ⌝ }
+    {
+        let at = bitpos + bias;
+        let centre = weight::sample_weight(self.peek8(at));
+        let early = weight::sample_weight(self.peek8(at - 1));
+        let last = self.peek8(at + 1);
+        let late = weight::sample_weight(last);
+        PeekAround {
+            weightmax: larger(larger(centre, early), late),
+            pmax: stride(centre, early, late),
+            stop: stop_of(last),
+        }
+    }
+
+    fn read_phase(self, max_out_bits: u8, bias: u16) -> PhaseRead
+        requires { ⌜ bias ≤ 255 ⌝ }
+        ensures { λ r. ⌜ r ≡ summaryOf (bitsOf self «max_out_bits» (subℕ bias 128)) ⌝ }
+    {
+        let bits = sample_bits(self.bits);
+        let mut bit_len: u8 = 0;
+        let mut score: u16 = 0;
+        let mut value: u64 = 0;
+        let mut bitpos: u16 = 1;
+        while bitpos + 1 < bits {
+            if max_out_bits < bit_len {
+                break;
+            }
+            let around = self.weighted_peek_around(bitpos, bias);
+            let stop = around.stop;
+            match stop {
+                PeekStop::Idle => break,
+                PeekStop::Held => return PhaseRead::Held,
+                PeekStop::None => {}
+            }
+            score = score + around.weightmax as u16;
+            value = push_decoded_bit(value, bit_len, around.weightmax);
+            bit_len = bit_len + 1;
+            bitpos = bitpos + around.pmax;
+        }
+        PhaseRead::Bits(Reading {
+            bit_len,
+            score,
+            bits: value,
+        })
+    }
+
+    pub fn decode_phase(self, max_out_bits: u8, phase_ticks: i8) -> PhaseDecode
+        ensures { λ r. ⌜ r ≡ phaseOf self «max_out_bits» «phase_ticks» ⌝ }
+    {
+        let read = self.read_phase(max_out_bits, from_earliest(phase_ticks));
+        match read {
+            PhaseRead::Held => PhaseDecode::failed(phase_ticks),
+            PhaseRead::Bits(r) => PhaseDecode {
+                bit_len: reported(r.bit_len),
+                phase_ticks,
+                score: r.score,
+                data: placed(r.bits, stored(r.bit_len)),
+            },
+        }
+    }
+}
+
+// The samples that a window keeps of a capture.
+fn kept(sample_count: u16) -> usize
+    ensures { λ r. ⌜ r ≡ min «sample_count» 64 ⌝ }
+{
+    let count = sample_count as usize;
+    if count < DALI_RX_SAMPLE_BUF_LEN {
+        count
+    } else {
+        DALI_RX_SAMPLE_BUF_LEN
+    }
+}
+
+// The sample bits of a window, of which there are no more than 64 bytes have.
+fn sample_bits(bits: u16) -> u16
+    ensures { λ r. ⌜ r ≡ min bits 512 ⌝ }
+{
+    if bits < 512 { bits } else { 512 }
+}
+
+// The phase as a count of ticks from the earliest.
+fn from_earliest(phase_ticks: i8) -> u16
+    ensures { λ r. ⌜ subℕ r 128 ≡ «phase_ticks» ⌝ }
+    ensures { λ r. ⌜ r ≤ 255 ⌝ }
+{
+    (phase_ticks as i16 + 128) as u16
+}
+
+fn larger(a: u8, b: u8) -> u8
+    ensures { λ r. ⌜ r ≡ max a b ⌝ }
+{
+    if a < b { b } else { a }
+}
+
+// How far the next bit lies: the largest weight wins, the centre on a tie, then the early one.
+fn stride(centre: u8, early: u8, late: u8) -> u16
+    ensures { λ r. ⌜ r ≡ strideOf centre early late ⌝ }
+{
+    if larger(centre, early) < late {
+        return 9;
+    }
+    if centre < early { 7 } else { 8 }
+}
+
+fn stop_of(sample: u8) -> PeekStop
+    ensures { λ r. ⌜ r ≡ stopOf sample ⌝ }
+{
+    match sample {
+        PEEK_IDLE => PeekStop::Idle,
+        PEEK_HELD => PeekStop::Held,
+        _ => PeekStop::None,
+    }
+}
+
+// The stored bits with one more. The start bit isn't stored, nor is what there is no room for.
+fn push_decoded_bit(bits: u64, bit_len: u8, weightmax: u8) -> u64
+    requires { ⌜ bits < 2 ^ storedOf «bit_len» ⌝ }
+    ensures { λ r. ⌜ r ≡ pushedOf bits «bit_len» weightmax ⌝ }
+{
+    if bit_len == 0 {
+        return bits;
+    }
+    if STORED_BITS < bit_len {
+        return bits;
+    }
+    bits * 2 + (weightmax % 2) as u64
+}
+
+// The length that is told: without the start bit, unless it stands alone.
+fn reported(bit_len: u8) -> u8
+    ensures { λ r. ⌜ r ≡ pick (ltb 1 «bit_len») («bit_len» - 1) «bit_len» ⌝ }
+{
+    if 1 < bit_len { bit_len - 1 } else { bit_len }
+}
+
+// How many of the bits read are stored.
+fn stored(bit_len: u8) -> u8
+    ensures { λ r. ⌜ r ≡ storedOf «bit_len» ⌝ }
+{
+    if bit_len == 0 {
+        0
+    } else if bit_len <= STORED_BITS {
+        bit_len - 1
+    } else {
+        STORED_BITS
+    }
+}
+
+// n stored bits by bytes: whole bytes from the top, and a part-filled one with its bits at the bottom.
+fn placed(bits: u64, n: u8) -> u64
+    requires { ⌜ (bits < 2 ^ n) × (n ≤ 64) ⌝ }
+    ensures { λ r. ⌜ r ≡ placedOf bits n ⌝ }
+{
+    if n == 0 {
+        return 0;
+    }
+    let whole = (n - 1) / 8 * 8;
+    let rest = n - whole;
+    ((bits >> rest) * 256 + bits % (1u64 << rest)) << (56 - whole)
+}
