@@ -1,5 +1,5 @@
 -- Laws of numbers from their digits: one for every base and every count. Assumes nothing.
-use mathlib.Core.Path.{_≡_, refl, sym, _∙_, ap}
+use mathlib.Core.Path.{_≡_, refl, sym, ap}
 use Prim.Native.Nat.{ℕ, zero, suc, _+_, _-_, _*_, _/_, _%_, _^_, _<_, _≤_}
 use native.Mathlib.Omega.{arith}
 use native.Mathlib.Nat.{mul-assoc, add-mul, suc-mul, pow-zero, pow-suc, add-zero, add-suc, add-assoc, mul-le-mul-right, mul-one, mod-one}

@@ -1,5 +1,5 @@
 -- The set of a list's lengths holds exactly those of them that are below 32. Assumes nothing.
-use Prim.Native.Nat.{ℕ, zero, suc, _≤_, _/_, _%_, _^_, _<_, _*_, _-_, _+_}
+use Prim.Native.Nat.{ℕ, zero, suc, _≤_, _/_, _%_, _^_, _<_, _-_, _+_}
 use mathlib.Core.Path.{_≡_, refl, sym, _∙_, ap}
 use mathlib.Core.Bool.{Bool, true, false}
 use mathlib.Core.List.{List, [], _∷_}

@@ -1,13 +1,13 @@
 -- The closed form in which the code places the stored bits is the definition's: eight bytes, the first on top. Assumes nothing.
-use mathlib.Core.Path.{_≡_, refl, sym, _∙_, ap}
+use mathlib.Core.Path.{_≡_, refl, _∙_, ap}
 use Prim.Native.Nat.{ℕ, zero, suc, _+_, _-_, _*_, _/_, _%_, _^_, _≤_, _<_, min}
 use native.Mathlib.Omega.{arith}
 use native.Mathlib.Nat.{suc-mul, pow-suc, add-zero}
 use lib.Pow.{high, low, pow-add}
 use Rattle.laws.specs.Packed.{packed}
-use Rattle.laws.proofs.Digits.{packed-same, packed-add, packed-lt, packed-zero}
+use Rattle.laws.proofs.Digits.{packed-add, packed-lt, packed-zero}
 use Rattle.window.specs.Code.{placedOf}
-use Rattle.window.proofs.Placing.{whole, rest}
+use Rattle.window.proofs.Placing.{rest}
 
 -- the byte i of n bits
 abbrev byte : ℕ → (ℕ → ℕ) → ℕ → ℕ

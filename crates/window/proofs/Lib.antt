@@ -1,4 +1,6 @@
+pub mod Bounds
 pub mod Bytes
 pub mod Peeks
 pub mod Placing
+pub mod Sole
 pub mod Turns

@@ -1,7 +1,7 @@
 -- The peek as the code reads it, two bytes at a time and from the earliest position on, is the definition's eight ticks. Assumes nothing.
 use mathlib.Core.Path.{_≡_, refl, sym, _∙_, ap}
 use mathlib.Core.Bool.{Bool, true, false}
-use Prim.Native.Nat.{ℕ, zero, suc, _+_, _-_, _*_, _/_, _%_, _^_, _≤_, _<_}
+use Prim.Native.Nat.{ℕ, suc, _+_, _-_, _*_, _/_, _%_, _^_, _≤_, _<_}
 use native.Mathlib.Omega.{arith}
 use native.Mathlib.Decide.{decLt}
 use native.Mathlib.Nat.{zero-div, div-one, mul-assoc, mul-comm, add-comm, mul-add-div-right}
@@ -9,7 +9,7 @@ use lib.Dec.{ltb}
 use lib.IntN.{ℤ, pos, negsuc, subℕ, _+ℤ_, +ℤ-comm}
 use lib.ListN.{getD}
 use lib.Pow.{high, low, pow-add, pow-pos, shr-lt, shr-mod, mod-pow-add}
-use borrow.Author.Tests.{lt-ltb, le-ltb, ltb-true, ltb-false}
+use borrow.Author.Tests.{lt-ltb, le-ltb}
 use Rattle.laws.specs.Packed.{packed}
 use Rattle.laws.specs.Pick.{pick}
 use Rattle.laws.proofs.Picked.{on-true, on-false}

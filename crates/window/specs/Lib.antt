@@ -1,3 +1,4 @@
+pub mod Bounds
 pub mod Code
 pub mod Phase
 pub mod Window

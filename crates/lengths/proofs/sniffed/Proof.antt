@@ -2,7 +2,6 @@
 use mathlib.Core.Path.{_≡_, refl}
 use mathlib.Core.List.{[], _∷_}
 use Rattle.laws.specs.Pick.{pick}
-use Rattle.lengths.specs.declared.BitLengths.{BitLengths}
 use Rattle.lengths.specs.Lengths.{mask, setOf, withLengths, withLength}
 use Rattle.lengths.proofs.Member.{member}
 use Rattle.lengths.proofs.sniffed.Statement.{statement}

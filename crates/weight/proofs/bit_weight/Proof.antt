@@ -2,9 +2,9 @@
 use borrow.Author.Needs.{needs}
 use mathlib.Core.Bool.{Bool, true, false}
 use mathlib.Core.Path.{_≡_}
-use Prim.Native.Nat.{ℕ, zero, suc, _<_, _+_, _/_, _%_, _^_}
+use Prim.Native.Nat.{ℕ, zero, suc, _<_, _/_, _%_, _^_}
 use native.Mathlib.Omega.{arith}
-use native.Mathlib.Nat.{one-mul, add-zero}
+use native.Mathlib.Nat.{one-mul}
 use lib.Dec.{eqb}
 use lib.IntN.{ℤ, pos, negsuc, negℤ, _-ℤ_, _*ℤ_}
 use lib.Signed.{mag}

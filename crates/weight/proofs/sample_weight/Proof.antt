@@ -13,9 +13,6 @@ use Rattle.laws.proofs.Below.{every, asked, below-on, fits-below}
 use Rattle.weight.specs.Weight.{weightOf, folded, halfWeight, bitWeight}
 use Rattle.weight.proofs.sample_weight.Statement.{statement}
 use Rattle.weight.proofs.sample_weight.Tie as tie
-use Rattle.weight.proofs.sample_weight.Reads as reads
-use Rattle.weight.proofs.sample_weight.Lts as lts
-use Rattle.weight.proofs.half_weight.Reads as half-weight-reads
 
 -- a signed value as it is read back from its bits
 abbrev back : ℤ → ℤ

@@ -1,5 +1,4 @@
 -- `window::from_earliest` meets its contract: each need is a test of an i8, which antt computes at all 256. Assumes nothing.
-use mathlib.Core.Bool.{Bool}
 use lib.Dec.{ltb, leb, ltb→lt, leb→le}
 use lib.IntN.{ℤ, pos, natAbs, subℕ, _+ℤ_}
 use lib.Signed.{mag, nonNeg}
@@ -8,8 +7,6 @@ use mir.Val.{toZ, ofZ}
 use Rattle.laws.proofs.Below.{below-z, sameZ, same→eq}
 use Rattle.window.proofs.from_earliest.Statement.{statement}
 use Rattle.window.proofs.from_earliest.Tie as tie
-use Rattle.window.proofs.from_earliest.Reads as reads
-use Rattle.window.proofs.from_earliest.Lts as lts
 
 -- an i8, and a value of the wider width, as they are read back from their bits
 abbrev narrow : ℤ → ℤ

@@ -5,8 +5,6 @@ use lib.Pow.{pow-pos}
 use Rattle.window.proofs.Placing.{one-shifted, sum-fits, placed-fits, placed-none}
 use Rattle.window.proofs.placed.Statement.{statement}
 use Rattle.window.proofs.placed.Tie as tie
-use Rattle.window.proofs.placed.Reads as reads
-use Rattle.window.proofs.placed.Lts as lts
 
 returns : tie.Need-returns
 returns c = placed-none _ _ (c .before .pre .0) (c .if1 .taken)

@@ -7,8 +7,6 @@ use Rattle.window.specs.Code.{pushedOf}
 use Rattle.window.proofs.Placing.{room}
 use Rattle.window.proofs.push_decoded_bit.Statement.{statement}
 use Rattle.window.proofs.push_decoded_bit.Tie as tie
-use Rattle.window.proofs.push_decoded_bit.Reads as reads
-use Rattle.window.proofs.push_decoded_bit.Lts as lts
 
 returns : tie.Need-returns
 unfolding pushedOf

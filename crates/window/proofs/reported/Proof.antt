@@ -1,11 +1,9 @@
 -- `window::reported` meets its contract. Assumes nothing.
 use borrow.Author.Needs.{needs}
-use borrow.Author.Tests.{lt-ltb, le-ltb, eq-eqb, ne-eqb}
+use borrow.Author.Tests.{lt-ltb, le-ltb}
 use Rattle.laws.proofs.Picked.{on-true, on-false}
 use Rattle.window.proofs.reported.Statement.{statement}
 use Rattle.window.proofs.reported.Tie as tie
-use Rattle.window.proofs.reported.Reads as reads
-use Rattle.window.proofs.reported.Lts as lts
 
 sub-result : tie.Need-sub-result
 sub-result c = search needs

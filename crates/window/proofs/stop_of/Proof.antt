@@ -1,13 +1,11 @@
 -- `window::stop_of` meets its contract. Assumes nothing.
 use mathlib.Core.Path.{sym, ap}
-use borrow.Author.Tests.{lt-ltb, le-ltb, eq-eqb, ne-eqb}
+use borrow.Author.Tests.{eq-eqb, ne-eqb}
 use Rattle.laws.proofs.Picked.{on-true, on-false}
 use Rattle.laws.specs.Pick.{pick}
 use Rattle.window.specs.Code.{stopOf}
 use Rattle.window.proofs.stop_of.Statement.{statement}
 use Rattle.window.proofs.stop_of.Tie as tie
-use Rattle.window.proofs.stop_of.Reads as reads
-use Rattle.window.proofs.stop_of.Lts as lts
 
 returns : tie.Need-returns
 unfolding stopOf

@@ -1,15 +1,12 @@
 -- `window::stride` meets its contract. Assumes nothing.
 use borrow.Author.Needs.{needs}
-use borrow.Author.Tests.{lt-ltb, le-ltb, eq-eqb, ne-eqb}
+use borrow.Author.Tests.{lt-ltb, le-ltb}
 use Rattle.laws.proofs.Picked.{on-true, on-false}
 use Prim.Native.Nat.{max, _<_, _≤_}
 use native.Mathlib.Omega.{arith}
 use Rattle.window.specs.Phase.{strideOf}
 use Rattle.window.proofs.stride.Statement.{statement}
 use Rattle.window.proofs.stride.Tie as tie
-use Rattle.window.proofs.stride.Reads as reads
-use Rattle.window.proofs.stride.Lts as lts
-use Rattle.window.proofs.larger.Reads as larger-reads
 
 larger-requires : tie.Need-larger-requires
 larger-requires c κs = search needs

@@ -3,8 +3,6 @@ use mir.Facts.{toZ-ofZ}
 use Rattle.window.specs.Phase.{decodeOf}
 use Rattle.window.proofs.PhaseDecode.failed.Statement.{statement}
 use Rattle.window.proofs.PhaseDecode.failed.Tie as tie
-use Rattle.window.proofs.PhaseDecode.failed.Reads as reads
-use Rattle.window.proofs.PhaseDecode.failed.Lts as lts
 
 returns : tie.Need-returns
 unfolding decodeOf

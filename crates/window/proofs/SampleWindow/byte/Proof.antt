@@ -1,6 +1,6 @@
 -- `SampleWindow::byte` meets its contract. Assumes nothing.
 use borrow.Author.Needs.{needs}
-use borrow.Author.Tests.{lt-ltb, le-ltb, eq-eqb, ne-eqb}
+use borrow.Author.Tests.{lt-ltb, le-ltb}
 use Rattle.laws.proofs.Picked.{on-true, on-false}
 use mathlib.Core.Path.{_≡_}
 use native.Mathlib.Omega.{arith}
@@ -8,8 +8,6 @@ use lib.ListN.{length, List·getD-eq-default}
 use Rattle.window.specs.Code.{byteAt}
 use Rattle.window.proofs.SampleWindow.byte.Statement.{statement}
 use Rattle.window.proofs.SampleWindow.byte.Tie as tie
-use Rattle.window.proofs.SampleWindow.byte.Reads as reads
-use Rattle.window.proofs.SampleWindow.byte.Lts as lts
 
 returns : tie.Need-returns
 unfolding byteAt

@@ -2,7 +2,7 @@
 use borrow.Author.Needs.{needs}
 use mathlib.Core.Path.{_≡_, refl, sym, _∙_, ap}
 use mathlib.Core.List.{List}
-use Prim.Native.Nat.{ℕ, _≤_, _<_, _-_, _%_, _^_}
+use Prim.Native.Nat.{ℕ, _<_, _-_, _^_}
 use native.Mathlib.Omega.{arith}
 use lib.Dec.{ltb}
 use lib.IntN.{ℤ, subℕ}
@@ -19,14 +19,6 @@ use Rattle.window.specs.Code.{summaryOf, storedOf, placedOf}
 use Rattle.window.proofs.Bytes.{placed-is}
 use Rattle.window.proofs.SampleWindow.decode_phase.Statement.{statement}
 use Rattle.window.proofs.SampleWindow.decode_phase.Tie as tie
-use Rattle.window.proofs.SampleWindow.decode_phase.Reads as reads
-use Rattle.window.proofs.SampleWindow.decode_phase.Lts as lts
-use Rattle.window.proofs.PhaseDecode.failed.Reads as failed-reads
-use Rattle.window.proofs.SampleWindow.read_phase.Reads as read-phase-reads
-use Rattle.window.proofs.from_earliest.Reads as from-earliest-reads
-use Rattle.window.proofs.placed.Reads as placed-reads
-use Rattle.window.proofs.reported.Reads as reported-reads
-use Rattle.window.proofs.stored.Reads as stored-reads
 
 same : (x y : Reading) → read.Bits x ≡ read.Bits y → x ≡ y
 same x y e = cc

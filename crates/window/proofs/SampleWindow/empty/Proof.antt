@@ -3,8 +3,6 @@ use mathlib.Core.Path.{refl}
 use Rattle.window.specs.Window.{emptyWindow}
 use Rattle.window.proofs.SampleWindow.empty.Statement.{statement}
 use Rattle.window.proofs.SampleWindow.empty.Tie as tie
-use Rattle.window.proofs.SampleWindow.empty.Reads as reads
-use Rattle.window.proofs.SampleWindow.empty.Lts as lts
 
 returns : tie.Need-returns
 unfolding emptyWindow

@@ -1,7 +1,7 @@
 -- `SampleWindow::of_capture` meets its contract. The loop's invariant: the first i bytes are the capture's, and the rest are zero. Assumes nothing.
 use borrow.Author.Needs.{needs}
 use mathlib.Core.Path.{_≡_, refl, sym, _∙_}
-use mathlib.Core.List.{List, [], _∷_, _++_}
+use mathlib.Core.List.{List, _∷_, _++_}
 use Prim.Native.Nat.{ℕ, suc, _≤_, _<_, _-_, _+_, _*_, min}
 use native.Mathlib.Omega.{arith}
 use native.Mathlib.Numerals.{add-one}
@@ -11,9 +11,6 @@ use Rattle.window.specs.declared.SampleWindow.{SampleWindow}
 use Rattle.window.specs.Window.{windowOf}
 use Rattle.window.proofs.SampleWindow.of_capture.Statement.{statement}
 use Rattle.window.proofs.SampleWindow.of_capture.Tie as tie
-use Rattle.window.proofs.SampleWindow.of_capture.Reads as reads
-use Rattle.window.proofs.SampleWindow.of_capture.Lts as lts
-use Rattle.window.proofs.kept.Reads as kept-reads
 
 -- what the bytes are after i samples are copied
 abbrev copied : List ℕ → ℕ → List ℕ

@@ -1,6 +1,6 @@
 -- `SampleWindow::peek8` meets its contract. Assumes nothing.
 use borrow.Author.Needs.{needs}
-use mathlib.Core.Path.{_≡_, sym, _∙_}
+use mathlib.Core.Path.{_≡_}
 use borrow.Author.Tests.{lt-ltb, le-ltb}
 use Prim.Native.Nat.{ℕ, _+_, _*_, _-_, _/_, _%_, _^_, _≤_, _<_}
 use lib.IntN.{subℕ}
@@ -11,10 +11,6 @@ use Rattle.window.specs.Code.{byteAt}
 use Rattle.window.proofs.Peeks.{from, two-bytes}
 use Rattle.window.proofs.SampleWindow.peek8.Statement.{statement}
 use Rattle.window.proofs.SampleWindow.peek8.Tie as tie
-use Rattle.window.proofs.SampleWindow.peek8.Reads as reads
-use Rattle.window.proofs.SampleWindow.peek8.Lts as lts
-use Rattle.window.proofs.SampleWindow.byte.Reads as byte-reads
-use Rattle.window.proofs.SampleWindow.peek_before_start.Reads as peek-before-start-reads
 
 joined : (w : SampleWindow) (at first next : ℕ) → 128 ≤ at → (at - 128) / 8 < w .len → first ≡ byteAt w ((at - 128) / 8) 0
     → next ≡ byteAt w ((at - 128) / 8 + 1) 0 → next < 256 → (first * 256 + next) / 2 ^ (8 - (at - 128) % 8) % 256 ≡ peekAt w (subℕ at 128)

@@ -1,7 +1,7 @@
 -- `SampleWindow::peek_before_start` meets its contract. The loop's invariant: the ticks read so far are packed, the first on top. Assumes nothing.
 use borrow.Author.Needs.{needs}
 use mathlib.Core.Path.{_≡_, refl, _∙_}
-use Prim.Native.Nat.{ℕ, suc, _+_, _-_, _*_, _≤_, _<_, _^_}
+use Prim.Native.Nat.{ℕ, _+_, _-_, _*_, _≤_, _<_}
 use native.Mathlib.Omega.{arith}
 use native.Mathlib.Numerals.{add-one}
 use native.Mathlib.Nat.{lt-of-lt-of-le}
@@ -10,13 +10,10 @@ use lib.Pow.{pow-mono}
 use Rattle.laws.specs.Packed.{packed}
 use Rattle.laws.proofs.Digits.{packed-lt}
 use Rattle.window.specs.declared.SampleWindow.{SampleWindow}
-use Rattle.window.specs.Window.{levelBefore, peekAt}
+use Rattle.window.specs.Window.{levelBefore}
 use Rattle.window.proofs.Peeks.{level-lt, peek-before}
 use Rattle.window.proofs.SampleWindow.peek_before_start.Statement.{statement}
 use Rattle.window.proofs.SampleWindow.peek_before_start.Tie as tie
-use Rattle.window.proofs.SampleWindow.peek_before_start.Reads as reads
-use Rattle.window.proofs.SampleWindow.peek_before_start.Lts as lts
-use Rattle.window.proofs.SampleWindow.sample_bit.Reads as sample-bit-reads
 
 -- the ticks from a position on
 abbrev ticks : SampleWindow → ℕ → ℕ → ℕ

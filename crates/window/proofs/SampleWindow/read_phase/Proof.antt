@@ -1,8 +1,8 @@
 -- `SampleWindow::read_phase` meets its contract. The loop's invariant: what was read so far, joined with the bits from the position on, is what the whole
 -- phase reads; a bit takes 7 ticks or more; the sums have room. Assumes nothing.
 use borrow.Author.Needs.{needs}
-use mathlib.Core.Path.{_≡_, refl, sym, _∙_, ap}
-use Prim.Native.Nat.{ℕ, suc, _≤_, _<_, _-_, _+_, _*_, _^_, min}
+use mathlib.Core.Path.{_≡_, sym, _∙_, ap}
+use Prim.Native.Nat.{_≤_, _<_, _-_, _+_, _*_, _^_, min}
 use native.Mathlib.Omega.{arith}
 use lib.IntN.{subℕ}
 use Rattle.window.specs.declared.PeekStop.the-variants.{None, Idle, Held}
@@ -12,11 +12,6 @@ use Rattle.window.proofs.Placing.{pushed-lt}
 use Rattle.window.proofs.Turns.{pmax-bounds, at-end, at-most, joined, joined-none, joined-all, turned}
 use Rattle.window.proofs.SampleWindow.read_phase.Statement.{statement}
 use Rattle.window.proofs.SampleWindow.read_phase.Tie as tie
-use Rattle.window.proofs.SampleWindow.read_phase.Reads as reads
-use Rattle.window.proofs.SampleWindow.read_phase.Lts as lts
-use Rattle.window.proofs.SampleWindow.weighted_peek_around.Reads as weighted-peek-around-reads
-use Rattle.window.proofs.push_decoded_bit.Reads as push-decoded-bit-reads
-use Rattle.window.proofs.sample_bits.Reads as sample-bits-reads
 
 abbrev Inv-loop : tie.InvT-loop
 Inv-loop self max-out-bits bias bits bit-len₀ score₀ value₀ bitpos₀ bit-len score value bitpos = (bits ≡ min (self .bits) 512)

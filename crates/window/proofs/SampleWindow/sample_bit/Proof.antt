@@ -1,15 +1,11 @@
 -- `SampleWindow::sample_bit` meets its contract. Assumes nothing.
 use borrow.Author.Needs.{needs}
-use mathlib.Core.Path.{_≡_, sym, _∙_}
 use borrow.Author.Tests.{lt-ltb, le-ltb}
 use Rattle.laws.proofs.Picked.{on-true, on-false}
 use Rattle.window.specs.Window.{levelBefore}
 use Rattle.window.proofs.Peeks.{before, from, tick-is, first-level}
 use Rattle.window.proofs.SampleWindow.sample_bit.Statement.{statement}
 use Rattle.window.proofs.SampleWindow.sample_bit.Tie as tie
-use Rattle.window.proofs.SampleWindow.sample_bit.Reads as reads
-use Rattle.window.proofs.SampleWindow.sample_bit.Lts as lts
-use Rattle.window.proofs.SampleWindow.byte.Reads as byte-reads
 
 byte-requires : tie.Need-byte-requires
 byte-requires c κs = search needs

@@ -14,13 +14,6 @@ use Rattle.window.specs.Code.{stopOf, aroundOf}
 use Rattle.window.proofs.Peeks.{moved}
 use Rattle.window.proofs.SampleWindow.weighted_peek_around.Statement.{statement}
 use Rattle.window.proofs.SampleWindow.weighted_peek_around.Tie as tie
-use Rattle.window.proofs.SampleWindow.weighted_peek_around.Reads as reads
-use Rattle.window.proofs.SampleWindow.weighted_peek_around.Lts as lts
-use Rattle.window.proofs.SampleWindow.peek8.Reads as peek8-reads
-use Rattle.window.proofs.larger.Reads as larger-reads
-use Rattle.window.proofs.stop_of.Reads as stop-of-reads
-use Rattle.window.proofs.stride.Reads as stride-reads
-use Rattle.weight.proofs.sample_weight.Reads as sample-weight-reads
 
 abbrev made : ℕ → ℕ → PeekStop → PeekAround
 made weight stride stop = record { weightmax = weight; pmax = stride; stop = stop }

@@ -1,0 +1,4 @@
+pub mod Counted
+pub mod Runs
+pub mod Sole
+pub mod Steps

@@ -1,0 +1,213 @@
+// The search for the best phase, from source document 001 (manchester.rs).
+ghost use mathlib.Core.Path.{_≡_};
+ghost use Prim.Native.Nat.{_≤_, _<_};
+ghost use lib.IntN.{natAbs};
+ghost use Rattle.search.specs.Search.{scanPhase, higherOf, betterOf, keptOf, acceptedOf, newOf, firstOf, endedOf, scannedOf, stepOf, runOf};
+use lengths::BitLengths;
+use window::PhaseDecode;
+use window::SampleWindow;
+
+pub const MANCHESTER_RX_MAX_DECODED_BITS: u8 = 32;
+
+pub const MANCHESTER_RX_MIN_DECODED_BITS: u8 = 3;
+
+pub const PHASE_SCAN_COUNT: u8 = 4;
+
+// A decode, or none: the Rust's Option<PhaseDecode>.
+pub enum Found {
+    Decode(PhaseDecode),
+    Nothing,
+}
+
+// What a finished search hands out: what it found and in how many steps.
+pub struct SearchAnswer {
+    pub found: Found,
+    pub steps: u8,
+}
+
+// What an event holds of a search that the interrupt made.
+pub enum IsrDecode {
+    NotDecoded,
+    Decoded(Found),
+}
+
+pub enum PhaseSearch {
+    Searching,
+    Done(SearchAnswer),
+}
+
+pub struct BestPhaseSearch {
+    preferred: BitLengths,
+    step: u8,
+    best: Found,
+}
+
+// A step gives the search back beside its answer.
+pub struct Stepped {
+    pub search: BestPhaseSearch,
+    pub answer: PhaseSearch,
+}
+
+// The phases of the scan, in its order.
+fn scan_phase(index: u8) -> i8
+    ensures { λ r. ⌜ r ≡ scanPhase index ⌝ }
+{
+    match index {
+        0 => -2,
+        1 => -1,
+        2 => 1,
+        _ => 2,
+    }
+}
+
+fn unsigned_abs(phase_ticks: i8) -> u8
+    ensures { λ r. ⌜ r ≡ natAbs «phase_ticks» ⌝ }
+{
+    let wide = phase_ticks as i16;
+    if wide < 0 {
+        (0 - wide) as u8
+    } else {
+        wide as u8
+    }
+}
+
+pub fn is_better_decode(candidate: PhaseDecode, current: PhaseDecode, preferred: BitLengths) -> bool
+    ensures { λ r. ⌜ r ≡ betterOf candidate current preferred ⌝ }
+{
+    let candidate_preferred = preferred.contains(candidate.bit_len);
+    if candidate_preferred != preferred.contains(current.bit_len) {
+        return candidate_preferred;
+    }
+    if candidate.score != current.score {
+        return current.score < candidate.score;
+    }
+    unsigned_abs(candidate.phase_ticks) < unsigned_abs(current.phase_ticks)
+}
+
+impl BestPhaseSearch {
+    pub fn new(preferred: BitLengths) -> BestPhaseSearch
+        ensures { λ r. ⌜ r ≡ newOf preferred ⌝ }
+    {
+        BestPhaseSearch {
+            preferred,
+            step: 0,
+            best: Found::Nothing,
+        }
+    }
+
+    pub fn step(self, window: SampleWindow) -> Stepped
+        ensures { λ r. ⌜ r ≡ stepOf self window ⌝ }
+    {
+        let step = self.step;
+        if step == 0 {
+            let first = window.decode_phase(MANCHESTER_RX_MAX_DECODED_BITS, 0);
+            return self.after_first(first);
+        }
+        if PHASE_SCAN_COUNT < step {
+            return self.ended();
+        }
+        let candidate = window.decode_phase(MANCHESTER_RX_MAX_DECODED_BITS, scan_phase(step - 1));
+        self.after_scan(candidate)
+    }
+
+    // Step one is done if the length at phase 0 is preferred. Its decode is never kept.
+    fn after_first(self, first: PhaseDecode) -> Stepped
+        ensures { λ r. ⌜ r ≡ firstOf self first ⌝ }
+    {
+        let preferred = self.preferred;
+        let best = self.best;
+        let search = BestPhaseSearch {
+            preferred,
+            step: 1,
+            best,
+        };
+        if preferred.contains(first.bit_len) {
+            let found = accepted(Found::Decode(first));
+            return Stepped {
+                search,
+                answer: PhaseSearch::Done(SearchAnswer { found, steps: 1 }),
+            };
+        }
+        Stepped {
+            search,
+            answer: PhaseSearch::Searching,
+        }
+    }
+
+    fn after_scan(self, candidate: PhaseDecode) -> Stepped
+        requires { ⌜ (self .step) ≤ 4 ⌝ }
+        ensures { λ r. ⌜ r ≡ scannedOf self candidate ⌝ }
+    {
+        let preferred = self.preferred;
+        let step = self.step;
+        let current = self.best;
+        let best = kept(current, candidate, preferred);
+        let search = BestPhaseSearch {
+            preferred,
+            step: step + 1,
+            best,
+        };
+        if step < PHASE_SCAN_COUNT {
+            return Stepped {
+                search,
+                answer: PhaseSearch::Searching,
+            };
+        }
+        search.ended()
+    }
+
+    // A search at its end: the same answer at every further step.
+    fn ended(self) -> Stepped
+        ensures { λ r. ⌜ r ≡ endedOf self ⌝ }
+    {
+        let best = self.best;
+        let found = accepted(best);
+        Stepped {
+            search: self,
+            answer: PhaseSearch::Done(SearchAnswer { found, steps: 5 }),
+        }
+    }
+
+    pub fn run(self, window: SampleWindow) -> SearchAnswer
+        ensures { λ r. ⌜ r ≡ runOf self window ⌝ }
+    {
+        let mut search = self;
+        loop {
+            let stepped = search.step(window);
+            let answer = stepped.answer;
+            if let PhaseSearch::Done(found) = answer {
+                break found;
+            }
+            search = stepped.search;
+        }
+    }
+}
+
+// The decode that is kept of the best so far and a candidate. A length of 0 is never kept.
+fn kept(best: Found, candidate: PhaseDecode, preferred: BitLengths) -> Found
+    ensures { λ r. ⌜ r ≡ keptOf best candidate preferred ⌝ }
+{
+    if candidate.bit_len == 0 {
+        return best;
+    }
+    let Found::Decode(current) = best else {
+        return Found::Decode(candidate);
+    };
+    if is_better_decode(candidate, current, preferred) {
+        return Found::Decode(candidate);
+    }
+    Found::Decode(current)
+}
+
+// Too short a decode is none.
+fn accepted(found: Found) -> Found
+    ensures { λ r. ⌜ r ≡ acceptedOf found ⌝ }
+{
+    let Found::Decode(decode) = found else {
+        return Found::Nothing;
+    };
+    if decode.bit_len < MANCHESTER_RX_MIN_DECODED_BITS {
+        return Found::Nothing;
+    }
+    Found::Decode(decode)
+}
