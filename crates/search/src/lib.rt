@@ -160,8 +160,8 @@ impl BestPhaseSearch {
     fn ended(self) -> Stepped
         ensures { λ r. ⌜ r ≡ endedOf self ⌝ }
     {
-        let best = self.best;
-        let found = accepted(best);
+        let best_so_far = self.best;
+        let found = accepted(best_so_far);
         Stepped {
             search: self,
             answer: PhaseSearch::Done(SearchAnswer { found, steps: 5 }),

@@ -22,7 +22,10 @@ const PEEK_IDLE: u8 = 0xFF;
 const PEEK_HELD: u8 = 0x00;
 
 // The bits that the data bytes have room for.
-const STORED_BITS: u8 = 64;
+const STORED_BITS: u8 = (DECODED_BYTES * 8) as u8;
+
+// The sample bits of a full window.
+const MOST_SAMPLE_BITS: u16 = DALI_RX_SAMPLE_BUF_LEN as u16 * WINDOW_BITS_PER_SAMPLE;
 
 // A phase lies at most this many ticks before the start. Positions in the code are counted from there, so that they are never negative.
 const EARLIEST: u16 = 128;
@@ -175,14 +178,16 @@ impl SampleWindow {
         ensures { λ r. ⌜ r ≡ aroundOf self (subℕ bias 128) bitpos ⌝ }
     {
         let at = bitpos + bias;
-        let centre = weight::sample_weight(self.peek8(at));
-        let early = weight::sample_weight(self.peek8(at - 1));
-        let last = self.peek8(at + 1);
-        let late = weight::sample_weight(last);
+        let centre = self.peek8(at);
+        let early = self.peek8(at - 1);
+        let late = self.peek8(at + 1);
+        let centre_weight = weight::sample_weight(centre);
+        let early_weight = weight::sample_weight(early);
+        let late_weight = weight::sample_weight(late);
         PeekAround {
-            weightmax: larger(larger(centre, early), late),
-            pmax: stride(centre, early, late),
-            stop: stop_of(last),
+            weightmax: larger(larger(centre_weight, early_weight), late_weight),
+            pmax: stride(centre_weight, early_weight, late_weight),
+            stop: stop_of(late),
         }
     }
 
@@ -246,11 +251,15 @@ fn kept(sample_count: u16) -> usize
     }
 }
 
-// The sample bits of a window, of which there are no more than 64 bytes have.
+// The sample bits of a window. None that can be made has more than a full one.
 fn sample_bits(bits: u16) -> u16
     ensures { λ r. ⌜ r ≡ min bits 512 ⌝ }
 {
-    if bits < 512 { bits } else { 512 }
+    if bits < MOST_SAMPLE_BITS {
+        bits
+    } else {
+        MOST_SAMPLE_BITS
+    }
 }
 
 // The phase as a count of ticks from the earliest.

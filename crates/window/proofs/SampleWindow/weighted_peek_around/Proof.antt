@@ -48,23 +48,23 @@ add-at c = search needs
 peek8-requires : tie.Need-peek8-requires
 peek8-requires c κs = search needs
 
-sample-weight-requires : tie.Need-sample-weight-requires
-sample-weight-requires c κs = search needs
-
 sub-peek8 : tie.Need-sub-peek8
 sub-peek8 c = search needs
 
 peek8-requires-2 : tie.Need-peek8-requires-2
 peek8-requires-2 c κs = search needs
 
-sample-weight-requires-2 : tie.Need-sample-weight-requires-2
-sample-weight-requires-2 c κs = search needs
-
 add-peek8 : tie.Need-add-peek8
 add-peek8 c = search needs
 
 peek8-requires-3 : tie.Need-peek8-requires-3
 peek8-requires-3 c κs = search needs
+
+sample-weight-requires : tie.Need-sample-weight-requires
+sample-weight-requires c κs = search needs
+
+sample-weight-requires-2 : tie.Need-sample-weight-requires-2
+sample-weight-requires-2 c κs = search needs
 
 sample-weight-requires-3 : tie.Need-sample-weight-requires-3
 sample-weight-requires-3 c κs = search needs
@@ -82,7 +82,7 @@ stop-of-requires : tie.Need-stop-of-requires
 stop-of-requires c κs = search needs
 
 returns : tie.Need-returns
-returns c = put _ _ _ (c .before .before .before .before .before .before .before .before .before .before .pre .0) (c .before .before .before .before .before .before .before .before .before .peek8 .ensures) (c .before .before .before .before .before .before .before .before .sample-weight .ensures) (c .before .before .before .before .before .before .before .peek82 .ensures) (c .before .before .before .before .before .before .sample-weight2 .ensures) (c .before .before .before .before .before .peek83 .ensures) (c .before .before .before .before .sample-weight3 .ensures)
+returns c = put _ _ _ (c .before .before .before .before .before .before .before .before .before .before .pre .0) (c .before .before .before .before .before .before .before .before .before .peek8 .ensures) (c .before .before .before .before .before .before .sample-weight .ensures) (c .before .before .before .before .before .before .before .before .peek82 .ensures) (c .before .before .before .before .before .sample-weight2 .ensures) (c .before .before .before .before .before .before .before .peek83 .ensures) (c .before .before .before .before .sample-weight3 .ensures)
     (c .before .before .before .larger .ensures) (c .before .before .larger2 .ensures) (c .before .stride .ensures) (c .stop-of .ensures)
 
 pub weighted-peek-around-spec : {M : Type 1} → statement M
@@ -91,12 +91,12 @@ weighted-peek-around-spec =
     (tie.spec
     add-at
     peek8-requires
-    sample-weight-requires
     sub-peek8
     peek8-requires-2
-    sample-weight-requires-2
     add-peek8
     peek8-requires-3
+    sample-weight-requires
+    sample-weight-requires-2
     sample-weight-requires-3
     larger-requires
     larger-requires-2
