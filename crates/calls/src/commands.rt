@@ -1,0 +1,76 @@
+// What a line is answered. The families of commands are asked one after the other; a line that none of them answers is a bad one.
+ghost use Prim.Native.Nat.{_+_, _≤_};
+ghost use Rattle.calls.specs.Bounds.{Room};
+use crate::answer;
+use crate::answer::Answers;
+use crate::decoders;
+use crate::kept_search;
+use lengths::BitLengths;
+use search::BestPhaseSearch;
+
+pub(crate) const LINE_MAX: usize = 2047;
+
+// No answer is longer, its LF counted: the longest is that of `steps`, of at most 6 + 5 + 255 * 38 + 1 bytes.
+pub(crate) const ANSWER_MAX: usize = 10_000;
+
+// What is kept from line to line.
+pub(crate) struct Kept {
+    search: BestPhaseSearch,
+}
+
+// What an answer leaves: what is kept, and the place past the answer.
+pub(crate) struct Answered {
+    pub(crate) kept: Kept,
+    pub(crate) at: usize,
+}
+
+impl Kept {
+    // Before its first `bsnew` the kept search prefers no length.
+    pub(crate) fn new() -> Kept {
+        let none = [0u8; 0];
+        Kept {
+            search: BestPhaseSearch::new(BitLengths::of(&none)),
+        }
+    }
+}
+
+// The answer to a line, with its LF.
+pub(crate) fn answer(line: &[u8], kept: Kept, out: &mut Answers, at: usize) -> Answered
+    requires { ⌜ Room at 10000 ⌝ }
+    ensures { λ r. ⌜ r .at ≤ at + 10000 ⌝ }
+{
+    let answered = command(line, kept, out, at);
+    let end = answered.at;
+    let kept = answered.kept;
+    if end == at {
+        return Answered {
+            kept,
+            at: answer::put_text(out, at, b"?\n"),
+        };
+    }
+    Answered {
+        kept,
+        at: answer::put_byte(out, end, b'\n'),
+    }
+}
+
+// A family writes nothing where the command isn't one of its own or a field is bad. A new family is asked here, and what it keeps
+// joins `Kept`.
+fn command(line: &[u8], kept: Kept, out: &mut Answers, at: usize) -> Answered
+    requires { ⌜ Room at 9999 ⌝ }
+    ensures { λ r. ⌜ r .at ≤ at + 9999 ⌝ }
+{
+    if LINE_MAX < line.len() {
+        return Answered { kept, at };
+    }
+    let end = decoders::answer(line, out, at);
+    if at < end {
+        return Answered { kept, at: end };
+    }
+    let answered = kept_search::answer(line, kept.search, out, at);
+    let search = answered.search;
+    Answered {
+        kept: Kept { search },
+        at: answered.at,
+    }
+}

@@ -1,0 +1,179 @@
+// The decoders' commands that keep nothing from line to line. Each is given the whole line, its own name in front, and answers the
+// place past its answer; where a field is bad it writes nothing.
+ghost use Prim.Native.Nat.{_+_, _*_, _≤_};
+ghost use Rattle.calls.specs.Bounds.{Room};
+use crate::answer;
+use crate::answer::Answers;
+use crate::fields;
+use crate::operands;
+use crate::operands::Decode;
+use crate::operands::Preferred;
+use crate::results;
+use crate::values;
+use crate::values::Byte;
+use crate::values::Phase;
+use search::BestPhaseSearch;
+use window::SampleWindow;
+
+pub(crate) fn answer(line: &[u8], out: &mut Answers, at: usize) -> usize
+    requires { ⌜ Room at 9999 ⌝ }
+    ensures { λ r. ⌜ r ≤ at + 9999 ⌝ }
+{
+    let word = fields::field(line, 0);
+    if fields::is(word, b"weight") {
+        return weight(line, out, at);
+    }
+    if fields::is(word, b"phase") {
+        return phase(line, out, at);
+    }
+    if fields::is(word, b"search") {
+        return search(line, out, at);
+    }
+    if fields::is(word, b"steps") {
+        return steps(line, out, at);
+    }
+    if fields::is(word, b"better") {
+        return better(line, out, at);
+    }
+    if fields::is(word, b"lengths") {
+        return lengths(line, out, at);
+    }
+    at
+}
+
+// `weight HH`
+fn weight(line: &[u8], out: &mut Answers, at: usize) -> usize
+    requires { ⌜ Room at 5 ⌝ }
+    ensures { λ r. ⌜ r ≤ at + 5 ⌝ }
+{
+    let mut sample = [0u8; 1];
+    if values::read_hex(fields::rest(line, 1), &mut sample) {
+        let weight = weight::sample_weight(sample[0]);
+        return answer::put_decimal(out, at, weight as u16);
+    }
+    at
+}
+
+// `phase MAX PHASE COUNT HEX128`
+fn phase(line: &[u8], out: &mut Answers, at: usize) -> usize
+    requires { ⌜ Room at 41 ⌝ }
+    ensures { λ r. ⌜ r ≤ at + 41 ⌝ }
+{
+    let Byte::Is(max_out_bits) = values::read_byte(fields::field(line, 1)) else {
+        return at;
+    };
+    let Phase::Is(phase_ticks) = values::read_phase(fields::field(line, 2)) else {
+        return at;
+    };
+    let capture = operands::read_capture(line, 3);
+    if !capture.good {
+        return at;
+    }
+    let window = capture.window;
+    let decode = window.decode_phase(max_out_bits, phase_ticks);
+    let at = answer::put_text(out, at, b"phase ");
+    results::put_decode(out, at, decode)
+}
+
+// `search MASKHEX8 COUNT HEX128`
+fn search(line: &[u8], out: &mut Answers, at: usize) -> usize
+    requires { ⌜ Room at 47 ⌝ }
+    ensures { λ r. ⌜ r ≤ at + 47 ⌝ }
+{
+    let Preferred::Lengths(preferred) = operands::read_mask(fields::field(line, 1)) else {
+        return at;
+    };
+    let capture = operands::read_capture(line, 2);
+    if !capture.good {
+        return at;
+    }
+    let window = capture.window;
+    let run = BestPhaseSearch::new(preferred).run(window);
+    results::put_run(out, at, run)
+}
+
+// `steps MASKHEX8 K COUNT HEX128`
+fn steps(line: &[u8], out: &mut Answers, at: usize) -> usize
+    requires { ⌜ Room at 9999 ⌝ }
+    ensures { λ r. ⌜ r ≤ at + 9999 ⌝ }
+{
+    let Preferred::Lengths(preferred) = operands::read_mask(fields::field(line, 1)) else {
+        return at;
+    };
+    let Byte::Is(count) = values::read_byte(fields::field(line, 2)) else {
+        return at;
+    };
+    let capture = operands::read_capture(line, 3);
+    if !capture.good {
+        return at;
+    }
+    let window = capture.window;
+    let at = answer::put_text(out, at, b"steps ");
+    let at = answer::put_decimal(out, at, count as u16);
+    put_steps(out, at, BestPhaseSearch::new(preferred), window, count)
+}
+
+// What `count` steps of one search answer, each in 3 + 35 bytes at most.
+fn put_steps(
+    out: &mut Answers,
+    at: usize,
+    first: BestPhaseSearch,
+    window: SampleWindow,
+    count: u8,
+) -> usize
+    requires { ⌜ Room at (38 * count) ⌝ }
+    ensures { λ r. ⌜ r ≤ at + 38 * count ⌝ }
+{
+    let mut search = first;
+    let mut end = at;
+    let mut left = count;
+    while 0 < left {
+        let stepped = search.step(window);
+        let step = stepped.answer;
+        end = answer::put_text(out, end, b" | ");
+        end = results::put_step(out, end, step, b"");
+        search = stepped.search;
+        left -= 1;
+    }
+    end
+}
+
+// `better MASKHEX8 LEN PHASE SCORE LEN PHASE SCORE`
+fn better(line: &[u8], out: &mut Answers, at: usize) -> usize
+    requires { ⌜ Room at 1 ⌝ }
+    ensures { λ r. ⌜ r ≤ at + 1 ⌝ }
+{
+    let Preferred::Lengths(preferred) = operands::read_mask(fields::field(line, 1)) else {
+        return at;
+    };
+    let Decode::Is(candidate) = operands::read_decode(
+        fields::field(line, 2),
+        fields::field(line, 3),
+        fields::field(line, 4),
+    ) else {
+        return at;
+    };
+    let Decode::Is(current) = operands::read_decode(
+        fields::field(line, 5),
+        fields::field(line, 6),
+        fields::rest(line, 7),
+    ) else {
+        return at;
+    };
+    let better = search::is_better_decode(candidate, current, preferred);
+    answer::put_truth(out, at, better)
+}
+
+// `lengths HEX N`
+fn lengths(line: &[u8], out: &mut Answers, at: usize) -> usize
+    requires { ⌜ Room at 1 ⌝ }
+    ensures { λ r. ⌜ r ≤ at + 1 ⌝ }
+{
+    let Byte::Is(length) = values::read_byte(fields::rest(line, 2)) else {
+        return at;
+    };
+    let Preferred::Lengths(set) = operands::read_lengths(fields::field(line, 1)) else {
+        return at;
+    };
+    answer::put_truth(out, at, set.contains(length))
+}

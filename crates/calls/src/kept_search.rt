@@ -1,0 +1,82 @@
+// The commands on the kept search. Where a field is bad, nothing is written and the search stays as it is.
+ghost use Prim.Native.Nat.{_+_, _≤_};
+ghost use Rattle.calls.specs.Bounds.{Room};
+use crate::answer;
+use crate::answer::Answers;
+use crate::fields;
+use crate::operands;
+use crate::operands::Preferred;
+use crate::results;
+use search::BestPhaseSearch;
+
+// What an answer leaves: the search that is kept, and the place past the answer.
+pub(crate) struct Searched {
+    pub(crate) search: BestPhaseSearch,
+    pub(crate) at: usize,
+}
+
+pub(crate) fn answer(line: &[u8], search: BestPhaseSearch, out: &mut Answers, at: usize) -> Searched
+    requires { ⌜ Room at 47 ⌝ }
+    ensures { λ r. ⌜ r .at ≤ at + 47 ⌝ }
+{
+    let word = fields::field(line, 0);
+    if fields::is(word, b"bsnew") {
+        return bsnew(line, search, out, at);
+    }
+    if fields::is(word, b"bsstep") {
+        return bsstep(line, search, out, at);
+    }
+    if fields::is(word, b"bsrun") {
+        return Searched {
+            search,
+            at: bsrun(line, search, out, at),
+        };
+    }
+    Searched { search, at }
+}
+
+// `bsnew MASKHEX8`
+fn bsnew(line: &[u8], search: BestPhaseSearch, out: &mut Answers, at: usize) -> Searched
+    requires { ⌜ Room at 2 ⌝ }
+    ensures { λ r. ⌜ r .at ≤ at + 2 ⌝ }
+{
+    let Preferred::Lengths(preferred) = operands::read_mask(fields::rest(line, 1)) else {
+        return Searched { search, at };
+    };
+    Searched {
+        search: BestPhaseSearch::new(preferred),
+        at: answer::put_text(out, at, b"ok"),
+    }
+}
+
+// `bsstep COUNT HEX128`
+fn bsstep(line: &[u8], search: BestPhaseSearch, out: &mut Answers, at: usize) -> Searched
+    requires { ⌜ Room at 41 ⌝ }
+    ensures { λ r. ⌜ r .at ≤ at + 41 ⌝ }
+{
+    let capture = operands::read_capture(line, 1);
+    if !capture.good {
+        return Searched { search, at };
+    }
+    let window = capture.window;
+    let stepped = search.step(window);
+    let step = stepped.answer;
+    let next = stepped.search;
+    Searched {
+        search: next,
+        at: results::put_step(out, at, step, b"found "),
+    }
+}
+
+// `bsrun COUNT HEX128`: the search runs as a copy.
+fn bsrun(line: &[u8], search: BestPhaseSearch, out: &mut Answers, at: usize) -> usize
+    requires { ⌜ Room at 47 ⌝ }
+    ensures { λ r. ⌜ r ≤ at + 47 ⌝ }
+{
+    let capture = operands::read_capture(line, 1);
+    if !capture.good {
+        return at;
+    }
+    let window = capture.window;
+    results::put_run(out, at, search.run(window))
+}

@@ -1,0 +1,106 @@
+// What the decoders' commands work on, read from fields of a line: a window, a set of lengths, a decode.
+ghost use Prim.Native.Nat.{_<_};
+use crate::fields;
+use crate::values;
+use crate::values::BYTES_MAX;
+use crate::values::Byte;
+use crate::values::Count;
+use crate::values::Number;
+use crate::values::Phase;
+use lengths::BitLengths;
+use window::DALI_RX_SAMPLE_BUF_LEN;
+use window::PhaseDecode;
+use window::SampleWindow;
+
+// An enum holds no array, so the window stands beside what is to be thought of it.
+pub(crate) struct Capture {
+    pub(crate) good: bool,
+    pub(crate) window: SampleWindow,
+}
+
+pub(crate) enum Preferred {
+    Lengths(BitLengths),
+    Bad,
+}
+
+pub(crate) enum Decode {
+    Is(PhaseDecode),
+    Bad,
+}
+
+// `COUNT HEX128`, the last two fields of a line, from field n on.
+pub(crate) fn read_capture(line: &[u8], n: u8) -> Capture
+    requires { ⌜ n < 255 ⌝ }
+{
+    let mut samples = [0u8; DALI_RX_SAMPLE_BUF_LEN];
+    let Number::Is(sample_count) = values::read_number(fields::field(line, n), u16::MAX) else {
+        return Capture {
+            good: false,
+            window: SampleWindow::of_capture(&samples, 0),
+        };
+    };
+    let good = values::read_hex(fields::rest(line, n + 1), &mut samples);
+    Capture {
+        good,
+        window: SampleWindow::of_capture(&samples, sample_count),
+    }
+}
+
+// `MASKHEX8`: bit n of the number stands for the length n.
+pub(crate) fn read_mask(field: &[u8]) -> Preferred {
+    let mut mask = [0u8; 4];
+    if values::read_hex(field, &mut mask) {
+        return Preferred::Lengths(lengths_of(mask));
+    }
+    Preferred::Bad
+}
+
+// The lengths of a mask, whose first byte is on top, are listed to make the set.
+fn lengths_of(mask: [u8; 4]) -> BitLengths {
+    let mut lengths = [0u8; 32];
+    let mut count: usize = 0;
+    let mut length: u8 = 0;
+    while length < 32 {
+        if has_bit(mask, length) {
+            lengths[count] = length;
+            count += 1;
+        }
+        length += 1;
+    }
+    BitLengths::of(&lengths[..count])
+}
+
+fn has_bit(mask: [u8; 4], bit: u8) -> bool
+    requires { ⌜ bit < 32 ⌝ }
+{
+    let byte = mask[3 - bit as usize / 8];
+    (byte >> (bit % 8)) % 2 == 1
+}
+
+// `LEN PHASE SCORE`. A decode's data plays no part in what is better.
+pub(crate) fn read_decode(length: &[u8], phase: &[u8], score: &[u8]) -> Decode {
+    let Byte::Is(bit_len) = values::read_byte(length) else {
+        return Decode::Bad;
+    };
+    let Phase::Is(phase_ticks) = values::read_phase(phase) else {
+        return Decode::Bad;
+    };
+    let Number::Is(score) = values::read_number(score, u16::MAX) else {
+        return Decode::Bad;
+    };
+    Decode::Is(PhaseDecode {
+        bit_len,
+        phase_ticks,
+        score,
+        data: 0,
+    })
+}
+
+// `HEX`: each byte is a length.
+pub(crate) fn read_lengths(field: &[u8]) -> Preferred {
+    let mut lengths = [0u8; BYTES_MAX];
+    let Count::Is(count) = values::read_bytes(field, &mut lengths) else {
+        return Preferred::Bad;
+    };
+    Preferred::Lengths(BitLengths::of(&lengths[..count]))
+}

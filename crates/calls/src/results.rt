@@ -1,0 +1,57 @@
+// What the decoders hand out, written as answers. A decode takes 35 bytes at most: 5 + 1 + 6 + 1 + 5 + 1 + 16.
+ghost use mathlib.Core.Path.{_≡_};
+ghost use Prim.Native.Nat.{_+_, _≤_};
+ghost use lib.ListN.{length};
+ghost use Rattle.calls.specs.Bounds.{Room};
+use crate::answer;
+use crate::answer::Answers;
+use search::Found;
+use search::PhaseSearch;
+use search::SearchAnswer;
+use window::PhaseDecode;
+
+// `LEN PHASE SCORE DATA16`
+pub(crate) fn put_decode(out: &mut Answers, at: usize, decode: PhaseDecode) -> usize
+    requires { ⌜ Room at 35 ⌝ }
+    ensures { λ r. ⌜ r ≤ at + 35 ⌝ }
+{
+    let at = answer::put_decimal(out, at, decode.bit_len as u16);
+    let at = answer::put_byte(out, at, b' ');
+    let at = answer::put_phase(out, at, decode.phase_ticks);
+    let at = answer::put_byte(out, at, b' ');
+    let at = answer::put_decimal(out, at, decode.score);
+    let at = answer::put_byte(out, at, b' ');
+    answer::put_hex16(out, at, decode.data)
+}
+
+// `found STEPS LEN PHASE SCORE DATA16` or `nothing STEPS`
+pub(crate) fn put_run(out: &mut Answers, at: usize, run: SearchAnswer) -> usize
+    requires { ⌜ Room at 47 ⌝ }
+    ensures { λ r. ⌜ r ≤ at + 47 ⌝ }
+{
+    let found = run.found;
+    let Found::Decode(decode) = found else {
+        let at = answer::put_text(out, at, b"nothing ");
+        return answer::put_decimal(out, at, run.steps as u16);
+    };
+    let at = answer::put_text(out, at, b"found ");
+    let at = answer::put_decimal(out, at, run.steps as u16);
+    let at = answer::put_byte(out, at, b' ');
+    put_decode(out, at, decode)
+}
+
+// `searching`, `nothing`, or the word for a decode that was found and `LEN PHASE SCORE DATA16`
+pub(crate) fn put_step(out: &mut Answers, at: usize, step: PhaseSearch, word: &[u8]) -> usize
+    requires { ⌜ Room at (35 + length (now word)) ⌝ }
+    ensures { λ r. ⌜ r ≤ at + (35 + length (now (word .entry))) ⌝ }
+{
+    let PhaseSearch::Done(done) = step else {
+        return answer::put_text(out, at, b"searching");
+    };
+    let found = done.found;
+    let Found::Decode(decode) = found else {
+        return answer::put_text(out, at, b"nothing");
+    };
+    let at = answer::put_text(out, at, word);
+    put_decode(out, at, decode)
+}
