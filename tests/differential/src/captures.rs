@@ -1,0 +1,354 @@
+//! Captures as stations make them, and as they never should: waves of frames, exact and damaged, and
+//! bytes that are no wave at all.
+
+use crate::command::{Capture, SAMPLES};
+use crate::random::Random;
+
+const TICKS: usize = 8 * SAMPLES;
+const HALF_BIT_TICKS: u8 = 4;
+/// A station ends a capture on this many high ticks running.
+const IDLE_TICKS: usize = 16;
+
+const USUAL_BYTES: [u8; 16] = [
+    0x0F, 0xF0, 0x00, 0xFF, 0x1E, 0xE1, 0x3C, 0xC3, 0x7F, 0x80, 0xFE, 0x01, 0x87, 0x78, 0x1F, 0xF8,
+];
+
+pub fn any_capture(random: &mut Random) -> Capture {
+    let mut capture = match random.below(20) {
+        0..=13 => wave_capture(random),
+        14 => any_runs(random),
+        15 => usual_bytes(random),
+        16 => one_byte_throughout(random),
+        17 => two_frames(random),
+        18 => full_capture(random),
+        _ => any_bytes(random),
+    };
+    if random.one_in(3) {
+        capture.count = any_count(random, capture.count);
+    }
+    fill_past_count(&mut capture, random);
+    capture
+}
+
+/// The capture that an idle station makes of a frame's exact wave.
+pub fn frame_capture(bits: &[bool]) -> Capture {
+    capture_of_frame(bits, bit_of_eight_ticks)
+}
+
+/// The same of a wave that is too fast, with seven ticks a bit.
+pub fn fast_capture(bits: &[bool]) -> Capture {
+    capture_of_frame(bits, |_| [3, 4])
+}
+
+fn capture_of_frame(bits: &[bool], halves: fn(&mut Random) -> [u8; 2]) -> Capture {
+    let mut runs = Runs::new();
+    push_frame(&mut runs, bits, halves, &mut Random::new(0));
+    let mut capture = Wave::of(0, &runs).captured();
+    capture.samples[usize::from(capture.count)..].fill(0);
+    capture
+}
+
+pub fn bits_of(bytes: &[u8]) -> Vec<bool> {
+    bytes
+        .iter()
+        .flat_map(|byte| (0..8).rev().map(move |bit| byte >> bit & 1 != 0))
+        .collect()
+}
+
+/// A capture of these first samples, with zeros after them.
+pub fn samples_capture(count: u16, first: &[u8]) -> Capture {
+    let mut samples = [0; SAMPLES];
+    samples[..first.len()].copy_from_slice(first);
+    Capture { count, samples }
+}
+
+/// The lengths of a wave's runs in ticks: low first, then by turns.
+struct Runs {
+    ticks: Vec<u8>,
+}
+
+impl Runs {
+    fn new() -> Self {
+        Self {
+            ticks: Vec::with_capacity(192),
+        }
+    }
+
+    fn push(&mut self, high: bool, ticks: u8) {
+        let next_is_high = self.ticks.len() % 2 == 1;
+        match self.ticks.last_mut() {
+            Some(last) if next_is_high != high => *last = last.saturating_add(ticks),
+            None if high => self.ticks.extend([0, ticks]),
+            _ => self.ticks.push(ticks),
+        }
+    }
+}
+
+fn push_frame(
+    runs: &mut Runs,
+    bits: &[bool],
+    halves: fn(&mut Random) -> [u8; 2],
+    random: &mut Random,
+) {
+    for bit in [true].iter().chain(bits) {
+        let [first, second] = halves(random);
+        runs.push(!bit, first);
+        runs.push(*bit, second);
+    }
+}
+
+/// A line's levels, idle after the last run.
+struct Wave {
+    samples: [u8; SAMPLES],
+    last_low_end: usize,
+}
+
+impl Wave {
+    fn of(high_ticks_before: usize, runs: &Runs) -> Self {
+        let mut words = [u64::MAX; TICKS / 64];
+        let mut at = high_ticks_before;
+        let mut last_low_end = 0;
+        for (number, run) in runs.ticks.iter().enumerate() {
+            let end = TICKS.min(at + usize::from(*run));
+            if number % 2 == 0 {
+                pull_low(&mut words, at, end);
+                last_low_end = end;
+            }
+            at = end;
+        }
+        let mut samples = [0; SAMPLES];
+        for (eight, word) in samples.chunks_exact_mut(8).zip(words) {
+            eight.copy_from_slice(&word.to_be_bytes());
+        }
+        Self {
+            samples,
+            last_low_end,
+        }
+    }
+
+    /// The count that a station gives: whole bytes up to the sixteenth high tick, and one more.
+    fn captured(self) -> Capture {
+        let count = SAMPLES.min((self.last_low_end + IDLE_TICKS) / 8 + 1);
+        Capture {
+            count: count as u16,
+            samples: self.samples,
+        }
+    }
+}
+
+/// Clears the ticks from `from` to before `to`; the first tick is the first word's top bit.
+fn pull_low(words: &mut [u64; TICKS / 64], from: usize, to: usize) {
+    let mut at = from;
+    while at < to {
+        let end = to.min((at / 64 + 1) * 64);
+        let run = u64::MAX >> (64 - (end - at));
+        words[at / 64] &= !(run << ((64 - end % 64) % 64));
+        at = end;
+    }
+}
+
+fn wave_capture(random: &mut Random) -> Capture {
+    let mut runs = frame_runs(random);
+    match random.below(6) {
+        0 => one_run_off_by_one(&mut runs, random),
+        1 => all_runs_jittered(&mut runs, random),
+        2 => one_run_near_a_stop(&mut runs, random),
+        _ => {}
+    }
+    let before = if random.one_in(5) {
+        shifted_start(&mut runs, random)
+    } else {
+        0
+    };
+    let mut capture = Wave::of(before, &runs).captured();
+    if random.one_in(6) {
+        damage_ticks(&mut capture.samples, random);
+    }
+    capture
+}
+
+fn frame_runs(random: &mut Random) -> Runs {
+    let mut runs = Runs::new();
+    let bits = frame_bits(random);
+    let halves = match random.below(8) {
+        0 => bit_of_seven_ticks,
+        1 => bit_of_nine_ticks,
+        2 => bit_of_seven_to_nine_ticks,
+        _ => bit_of_eight_ticks,
+    };
+    push_frame(&mut runs, &bits, halves, random);
+    runs
+}
+
+fn frame_bits(random: &mut Random) -> Vec<bool> {
+    let length = match random.below(10) {
+        0..=2 => 8,
+        3..=5 => 16,
+        6 | 7 => 24,
+        8 => random.below(36),
+        _ => random.below(81),
+    };
+    let mut source = match random.below(6) {
+        0 => 0,
+        1 => u128::MAX,
+        2 => u128::MAX / 3 << random.below(2),
+        _ => u128::from(random.any()) << 64 | u128::from(random.any()),
+    };
+    let mut bits = Vec::with_capacity(length);
+    for _ in 0..length {
+        bits.push(source & 1 != 0);
+        source >>= 1;
+    }
+    bits
+}
+
+fn bit_of_seven_ticks(random: &mut Random) -> [u8; 2] {
+    random.pick(&[[3, 4], [4, 3]])
+}
+
+fn bit_of_eight_ticks(_: &mut Random) -> [u8; 2] {
+    [HALF_BIT_TICKS; 2]
+}
+
+fn bit_of_nine_ticks(random: &mut Random) -> [u8; 2] {
+    random.pick(&[[5, 4], [4, 5]])
+}
+
+fn bit_of_seven_to_nine_ticks(random: &mut Random) -> [u8; 2] {
+    random.pick(&[[3, 4], [4, 3], [4, 4], [3, 5], [5, 3], [5, 4], [4, 5]])
+}
+
+fn one_run_off_by_one(runs: &mut Runs, random: &mut Random) {
+    let at = random.below(runs.ticks.len());
+    let run = runs.ticks[at];
+    runs.ticks[at] = random.pick(&[run - 1, run + 1]);
+}
+
+fn all_runs_jittered(runs: &mut Runs, random: &mut Random) {
+    let mut choices = random.any();
+    for (number, run) in runs.ticks.iter_mut().enumerate() {
+        if number % 32 == 0 {
+            choices = random.any();
+        }
+        match choices & 3 {
+            0 => *run -= 1,
+            1 => *run += 1,
+            _ => {}
+        }
+        choices >>= 2;
+    }
+}
+
+/// Eight equal levels running stop a phase; about that many stop it from the late peek alone, or not.
+fn one_run_near_a_stop(runs: &mut Runs, random: &mut Random) {
+    let at = random.below(runs.ticks.len());
+    runs.ticks[at] = random.between(6, 12) as u8;
+}
+
+/// Begins the capture later or earlier than the wave; gives the high ticks that come before.
+fn shifted_start(runs: &mut Runs, random: &mut Random) -> usize {
+    match random.below(3) {
+        0 => random.between(1, 9) as usize,
+        1 => {
+            runs.ticks[0] += random.between(1, 4) as u8;
+            0
+        }
+        _ => {
+            runs.ticks[0] -= random.between(1, 2) as u8;
+            0
+        }
+    }
+}
+
+fn damage_ticks(samples: &mut [u8; SAMPLES], random: &mut Random) {
+    let reach = random.pick(&[64, 128, 256, TICKS]);
+    for _ in 0..random.between(1, 6) {
+        let tick = random.below(reach);
+        samples[tick / 8] ^= 0x80 >> (tick % 8);
+    }
+}
+
+fn two_frames(random: &mut Random) -> Capture {
+    let mut runs = frame_runs(random);
+    runs.push(true, random.between(1, 20) as u8);
+    let second = frame_bits(random);
+    push_frame(&mut runs, &second, bit_of_eight_ticks, random);
+    Wave::of(0, &runs).captured()
+}
+
+/// More bits than the data has room for, which only a fast wave gets into a capture.
+fn full_capture(random: &mut Random) -> Capture {
+    let mut runs = Runs::new();
+    let bytes: Vec<u8> = (0..10).map(|_| random.byte()).collect();
+    let halves = random.pick(&[bit_of_seven_ticks, bit_of_seven_to_nine_ticks]);
+    push_frame(&mut runs, &bits_of(&bytes), halves, random);
+    Wave::of(0, &runs).captured()
+}
+
+fn any_runs(random: &mut Random) -> Capture {
+    let mut runs = Runs::new();
+    let longest = random.pick(&[4, 6, 9, 12, 20]);
+    for number in 0..random.between(1, 128) {
+        runs.push(number % 2 == 1, random.between(1, longest) as u8);
+    }
+    Wave::of(random.pick(&[0, 0, 0, 3, 8]), &runs).captured()
+}
+
+fn usual_bytes(random: &mut Random) -> Capture {
+    let mut samples = [0; SAMPLES];
+    for sample in &mut samples {
+        *sample = random.pick(&USUAL_BYTES);
+    }
+    let count = random.between(0, 64) as u16;
+    Capture { count, samples }
+}
+
+fn one_byte_throughout(random: &mut Random) -> Capture {
+    let byte = match random.below(4) {
+        0 => 0x00,
+        1 => 0xFF,
+        2 => random.pick(&USUAL_BYTES),
+        _ => random.byte(),
+    };
+    Capture {
+        count: random.between(0, 64) as u16,
+        samples: [byte; SAMPLES],
+    }
+}
+
+fn any_bytes(random: &mut Random) -> Capture {
+    let mut samples = [0; SAMPLES];
+    for chunk in samples.chunks_exact_mut(8) {
+        chunk.copy_from_slice(&random.any().to_be_bytes());
+    }
+    let count = random.between(0, 64) as u16;
+    Capture { count, samples }
+}
+
+fn any_count(random: &mut Random, natural: u16) -> u16 {
+    match random.below(8) {
+        0 | 1 => random.below(65) as u16,
+        2 | 3 => random.below(usize::from(natural) + 1) as u16,
+        4 => random.pick(&[0, 1, 2, 3]),
+        5 => random.between(62, 66) as u16,
+        6 => random.pick(&[255, 256, 320, 32767, 32768, 65535]),
+        _ => random.any() as u16,
+    }
+}
+
+/// Bytes past the count are no part of the capture: new, left from an earlier one, or idle.
+fn fill_past_count(capture: &mut Capture, random: &mut Random) {
+    let count = SAMPLES.min(usize::from(capture.count));
+    let past = &mut capture.samples[count..];
+    match random.below(4) {
+        0 => past.fill(0xFF),
+        1 => {
+            for chunk in past.chunks_mut(8) {
+                let any = random.any().to_be_bytes();
+                chunk.copy_from_slice(&any[..chunk.len()]);
+            }
+        }
+        2 => {}
+        _ => past.fill(0x00),
+    }
+}

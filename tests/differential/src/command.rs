@@ -1,0 +1,344 @@
+//! The protocol's commands as values: read from a line, and written as one.
+
+pub const LONGEST_LINE: usize = 2047;
+pub const SAMPLES: usize = 64;
+
+#[derive(Clone, PartialEq, Eq)]
+pub struct Capture {
+    pub count: u16,
+    pub samples: [u8; SAMPLES],
+}
+
+/// What `better` is told of a decode.
+#[derive(Clone, Copy, PartialEq, Eq)]
+pub struct Rank {
+    pub len: u8,
+    pub phase: i8,
+    pub score: u16,
+}
+
+// The commands of the station, of the reading and of the bench line join here when they are ported.
+#[derive(Clone, PartialEq, Eq)]
+pub enum Command {
+    Weight {
+        sample: u8,
+    },
+    Phase {
+        max: u8,
+        phase: i8,
+        capture: Capture,
+    },
+    Search {
+        mask: u32,
+        capture: Capture,
+    },
+    Steps {
+        mask: u32,
+        k: u8,
+        capture: Capture,
+    },
+    BsNew {
+        mask: u32,
+    },
+    BsStep {
+        capture: Capture,
+    },
+    BsRun {
+        capture: Capture,
+    },
+    Better {
+        mask: u32,
+        candidate: Rank,
+        current: Rank,
+    },
+    Lengths {
+        bytes: Vec<u8>,
+        n: u8,
+    },
+}
+
+pub const NAMES: [&str; 9] = [
+    "weight", "phase", "search", "steps", "bsnew", "bsstep", "bsrun", "better", "lengths",
+];
+
+impl Command {
+    /// The place in `NAMES`.
+    pub fn number(&self) -> usize {
+        match self {
+            Command::Weight { .. } => 0,
+            Command::Phase { .. } => 1,
+            Command::Search { .. } => 2,
+            Command::Steps { .. } => 3,
+            Command::BsNew { .. } => 4,
+            Command::BsStep { .. } => 5,
+            Command::BsRun { .. } => 6,
+            Command::Better { .. } => 7,
+            Command::Lengths { .. } => 8,
+        }
+    }
+
+    /// The command that a line without its LF says, and none for a bad line.
+    pub fn read(line: &[u8]) -> Option<Self> {
+        if line.len() > LONGEST_LINE {
+            return None;
+        }
+        let mut fields = Fields { rest: Some(line) };
+        let command = match fields.next()? {
+            b"weight" => Command::Weight {
+                sample: fields.bytes::<1>()?[0],
+            },
+            b"phase" => Command::Phase {
+                max: fields.u8()?,
+                phase: fields.i8()?,
+                capture: fields.capture()?,
+            },
+            b"search" => Command::Search {
+                mask: fields.mask()?,
+                capture: fields.capture()?,
+            },
+            b"steps" => Command::Steps {
+                mask: fields.mask()?,
+                k: fields.u8()?,
+                capture: fields.capture()?,
+            },
+            b"bsnew" => Command::BsNew {
+                mask: fields.mask()?,
+            },
+            b"bsstep" => Command::BsStep {
+                capture: fields.capture()?,
+            },
+            b"bsrun" => Command::BsRun {
+                capture: fields.capture()?,
+            },
+            b"better" => Command::Better {
+                mask: fields.mask()?,
+                candidate: fields.rank()?,
+                current: fields.rank()?,
+            },
+            b"lengths" => Command::Lengths {
+                bytes: fields.byte_string()?,
+                n: fields.u8()?,
+            },
+            _ => return None,
+        };
+        match fields.rest {
+            None => Some(command),
+            Some(_) => None,
+        }
+    }
+
+    pub fn write(&self, out: &mut Vec<u8>) {
+        out.extend_from_slice(NAMES[self.number()].as_bytes());
+        match self {
+            Command::Weight { sample } => push_hex_field(out, &[*sample]),
+            Command::Phase {
+                max,
+                phase,
+                capture,
+            } => {
+                push_number_field(out, i32::from(*max));
+                push_number_field(out, i32::from(*phase));
+                push_capture(out, capture);
+            }
+            Command::Search { mask, capture } => {
+                push_hex_field(out, &mask.to_be_bytes());
+                push_capture(out, capture);
+            }
+            Command::Steps { mask, k, capture } => {
+                push_hex_field(out, &mask.to_be_bytes());
+                push_number_field(out, i32::from(*k));
+                push_capture(out, capture);
+            }
+            Command::BsNew { mask } => push_hex_field(out, &mask.to_be_bytes()),
+            Command::BsStep { capture } | Command::BsRun { capture } => push_capture(out, capture),
+            Command::Better {
+                mask,
+                candidate,
+                current,
+            } => {
+                push_hex_field(out, &mask.to_be_bytes());
+                push_rank(out, candidate);
+                push_rank(out, current);
+            }
+            Command::Lengths { bytes, n } => {
+                if bytes.is_empty() {
+                    out.extend_from_slice(b" -");
+                } else {
+                    push_hex_field(out, bytes);
+                }
+                push_number_field(out, i32::from(*n));
+            }
+        }
+    }
+
+    pub fn line(&self) -> Vec<u8> {
+        let mut line = Vec::with_capacity(160);
+        self.write(&mut line);
+        line
+    }
+}
+
+struct Fields<'a> {
+    /// What comes after the last field's space; none after the last field.
+    rest: Option<&'a [u8]>,
+}
+
+impl<'a> Fields<'a> {
+    fn next(&mut self) -> Option<&'a [u8]> {
+        let rest = self.rest?;
+        match rest.iter().position(|byte| *byte == b' ') {
+            Some(space) => {
+                self.rest = Some(&rest[space + 1..]);
+                Some(&rest[..space])
+            }
+            None => {
+                self.rest = None;
+                Some(rest)
+            }
+        }
+    }
+
+    fn u8(&mut self) -> Option<u8> {
+        decimal(self.next()?, u32::from(u8::MAX)).map(|value| value as u8)
+    }
+
+    fn u16(&mut self) -> Option<u16> {
+        decimal(self.next()?, u32::from(u16::MAX)).map(|value| value as u16)
+    }
+
+    fn i8(&mut self) -> Option<i8> {
+        match self.next()? {
+            [b'-', digits @ ..] => match decimal(digits, 128)? {
+                0 => None,
+                value => Some((-(value as i32)) as i8),
+            },
+            digits => decimal(digits, 127).map(|value| value as i8),
+        }
+    }
+
+    fn bytes<const N: usize>(&mut self) -> Option<[u8; N]> {
+        let digits = self.next()?;
+        let mut bytes = [0u8; N];
+        if digits.len() != 2 * N {
+            return None;
+        }
+        for (byte, pair) in bytes.iter_mut().zip(digits.chunks_exact(2)) {
+            *byte = hex_byte(pair)?;
+        }
+        Some(bytes)
+    }
+
+    fn mask(&mut self) -> Option<u32> {
+        self.bytes::<4>().map(u32::from_be_bytes)
+    }
+
+    fn capture(&mut self) -> Option<Capture> {
+        Some(Capture {
+            count: self.u16()?,
+            samples: self.bytes::<SAMPLES>()?,
+        })
+    }
+
+    fn rank(&mut self) -> Option<Rank> {
+        Some(Rank {
+            len: self.u8()?,
+            phase: self.i8()?,
+            score: self.u16()?,
+        })
+    }
+
+    fn byte_string(&mut self) -> Option<Vec<u8>> {
+        let digits = self.next()?;
+        if digits == b"-" {
+            return Some(Vec::new());
+        }
+        if digits.is_empty() || digits.len() % 2 != 0 {
+            return None;
+        }
+        digits.chunks_exact(2).map(hex_byte).collect()
+    }
+}
+
+fn decimal(digits: &[u8], max: u32) -> Option<u32> {
+    let plain = match digits {
+        [b'0'] => true,
+        // Six digits are past every range of the protocol, and more could overflow.
+        [b'1'..=b'9', ..] => digits.len() <= 6,
+        _ => false,
+    };
+    if !plain || !digits.iter().all(u8::is_ascii_digit) {
+        return None;
+    }
+    let value = digits
+        .iter()
+        .fold(0, |value, digit| 10 * value + u32::from(digit - b'0'));
+    (value <= max).then_some(value)
+}
+
+const NO_DIGIT: u8 = 0xFF;
+
+const DIGIT_VALUES: [u8; 256] = {
+    let mut values = [NO_DIGIT; 256];
+    let mut value = 0;
+    while value < 16 {
+        values[DIGITS[value] as usize] = value as u8;
+        value += 1;
+    }
+    values
+};
+
+const DIGITS: &[u8; 16] = b"0123456789abcdef";
+
+fn hex_byte(pair: &[u8]) -> Option<u8> {
+    let high = DIGIT_VALUES[usize::from(pair[0])];
+    let low = DIGIT_VALUES[usize::from(pair[1])];
+    (high != NO_DIGIT && low != NO_DIGIT).then_some(high << 4 | low)
+}
+
+pub fn push_hex(out: &mut Vec<u8>, bytes: &[u8]) {
+    let from = out.len();
+    out.resize(from + 2 * bytes.len(), 0);
+    for (pair, byte) in out[from..].chunks_exact_mut(2).zip(bytes) {
+        pair[0] = DIGITS[usize::from(byte >> 4)];
+        pair[1] = DIGITS[usize::from(byte & 15)];
+    }
+}
+
+pub fn push_number(out: &mut Vec<u8>, value: i32) {
+    if value < 0 {
+        out.push(b'-');
+    }
+    let mut rest = value.unsigned_abs();
+    let mut digits = [0u8; 10];
+    let mut at = digits.len();
+    loop {
+        at -= 1;
+        digits[at] = b'0' + (rest % 10) as u8;
+        rest /= 10;
+        if rest == 0 {
+            break;
+        }
+    }
+    out.extend_from_slice(&digits[at..]);
+}
+
+pub fn push_hex_field(out: &mut Vec<u8>, bytes: &[u8]) {
+    out.push(b' ');
+    push_hex(out, bytes);
+}
+
+pub fn push_number_field(out: &mut Vec<u8>, value: i32) {
+    out.push(b' ');
+    push_number(out, value);
+}
+
+fn push_capture(out: &mut Vec<u8>, capture: &Capture) {
+    push_number_field(out, i32::from(capture.count));
+    push_hex_field(out, &capture.samples);
+}
+
+fn push_rank(out: &mut Vec<u8>, rank: &Rank) {
+    push_number_field(out, i32::from(rank.len));
+    push_number_field(out, i32::from(rank.phase));
+    push_number_field(out, i32::from(rank.score));
+}

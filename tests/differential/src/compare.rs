@@ -1,0 +1,313 @@
+//! Another program's answers held to the Rust's, byte by byte.
+
+use std::io::{self, Read, Write};
+use std::process::{Child, ChildStdout, Command as Process, ExitStatus, Stdio};
+use std::sync::Arc;
+use std::thread::{self, JoinHandle};
+
+use crate::answer::Session;
+use crate::command::NAMES;
+use crate::generate::{Generator, Kind};
+use crate::shrink;
+
+const PAST_EXPECTED: usize = 4096;
+
+pub struct Task {
+    pub program: String,
+    pub seed: u64,
+    pub commands: usize,
+    pub kind: Kind,
+    pub batch: usize,
+}
+
+/// True if there is no difference. What was compared, or the difference, is printed.
+pub fn compare(task: &Task) -> io::Result<bool> {
+    let mut generator = Generator::new(task.seed, task.kind);
+    let mut tally = Tally::default();
+    let mut left = task.commands;
+    let mut next = next_batch(&mut generator, &mut left, task.batch);
+    while let Some(batch) = next {
+        let run = Run::start(
+            &task.program,
+            batch.script.clone(),
+            batch.answers.len(),
+            Stdio::inherit(),
+        )?;
+        // The Rust's part of the next batch is made while the program works on this one.
+        next = next_batch(&mut generator, &mut left, task.batch);
+        let said = run.end()?;
+        if let Some(difference) = first_difference(&batch.script, &batch.answers, &said) {
+            report(task, &tally, &batch, &difference)?;
+            return Ok(false);
+        }
+        tally.add(&batch.tally);
+    }
+    println!("seed {}: {}, no difference", task.seed, tally.text());
+    Ok(true)
+}
+
+/// A script that stands alone: the program is started anew for each.
+struct Batch {
+    script: Arc<Vec<u8>>,
+    answers: Vec<u8>,
+    tally: Tally,
+}
+
+fn next_batch(generator: &mut Generator, left: &mut usize, size: usize) -> Option<Batch> {
+    let lines = size.min(*left);
+    if lines == 0 {
+        return None;
+    }
+    *left -= lines;
+    let mut script = Vec::with_capacity(160 * lines);
+    let mut answers = Vec::with_capacity(40 * lines);
+    let mut session = Session::new();
+    let mut tally = Tally::default();
+    for _ in 0..lines {
+        let from = script.len();
+        generator.push_line(&mut script);
+        tally.count(session.answer(&script[from..], &mut answers));
+        script.push(b'\n');
+    }
+    Some(Batch {
+        script: Arc::new(script),
+        answers,
+        tally,
+    })
+}
+
+/// A run of the program on a script. Writing and reading have a thread each, so that no full pipe
+/// stops the program, or both sides.
+struct Run {
+    child: Child,
+    writer: JoinHandle<()>,
+    reader: JoinHandle<io::Result<Vec<u8>>>,
+}
+
+/// What the program wrote, and how it ended.
+struct Said {
+    text: Vec<u8>,
+    status: ExitStatus,
+}
+
+impl Run {
+    fn start(
+        program: &str,
+        script: Arc<Vec<u8>>,
+        expected: usize,
+        errors: Stdio,
+    ) -> io::Result<Self> {
+        let mut child = Process::new(program)
+            .stdin(Stdio::piped())
+            .stdout(Stdio::piped())
+            .stderr(errors)
+            .spawn()?;
+        let input = child.stdin.take();
+        let output = child.stdout.take();
+        let writer = thread::spawn(move || {
+            // A program that stops reading shows itself by what it doesn't answer.
+            let _ = input.map(|mut pipe| pipe.write_all(&script));
+        });
+        let reader = thread::spawn(move || match output {
+            Some(pipe) => read_at_most(pipe, expected + PAST_EXPECTED),
+            None => Ok(Vec::new()),
+        });
+        Ok(Self {
+            child,
+            writer,
+            reader,
+        })
+    }
+
+    fn end(mut self) -> io::Result<Said> {
+        let text = joined(self.reader)??;
+        joined(self.writer)?;
+        let status = self.child.wait()?;
+        Ok(Said { text, status })
+    }
+}
+
+/// A program may never stop writing; one that writes more than this finds its pipe closed.
+fn read_at_most(pipe: ChildStdout, most: usize) -> io::Result<Vec<u8>> {
+    let mut text = Vec::with_capacity(most);
+    pipe.take(most as u64).read_to_end(&mut text)?;
+    Ok(text)
+}
+
+fn joined<T>(thread: JoinHandle<T>) -> io::Result<T> {
+    thread
+        .join()
+        .map_err(|_| io::Error::other("a thread at the program's pipes failed"))
+}
+
+/// The first line, counted from 0, on which the answers part, and both answers to it.
+struct Difference {
+    line: usize,
+    rust: Vec<u8>,
+    program: Vec<u8>,
+}
+
+fn first_difference(script: &[u8], answers: &[u8], said: &Said) -> Option<Difference> {
+    if said.text != answers {
+        let mut rust = answers.split_inclusive(|byte| *byte == b'\n');
+        let mut program = said.text.split_inclusive(|byte| *byte == b'\n');
+        for line in 0.. {
+            let (expected, got) = (rust.next(), program.next());
+            if expected != got {
+                return Some(Difference {
+                    line,
+                    rust: shown(expected, b"(no more lines)"),
+                    program: shown(got, ended(said).as_bytes()),
+                });
+            }
+        }
+    }
+    if said.status.success() {
+        return None;
+    }
+    Some(Difference {
+        line: script.iter().filter(|byte| **byte == b'\n').count() - 1,
+        rust: b"(every line was answered as by the Rust)".to_vec(),
+        program: ended(said).into_bytes(),
+    })
+}
+
+fn shown(answer: Option<&[u8]>, missing: &[u8]) -> Vec<u8> {
+    match answer {
+        Some([text @ .., b'\n']) => text.to_vec(),
+        Some(text) => [text, b" (and no LF)"].concat(),
+        None => missing.to_vec(),
+    }
+}
+
+fn ended(said: &Said) -> String {
+    format!("(no more lines; the program ended with {})", said.status)
+}
+
+fn report(task: &Task, before: &Tally, batch: &Batch, difference: &Difference) -> io::Result<()> {
+    let lines: Vec<&[u8]> = batch.script.split(|byte| *byte == b'\n').collect();
+    let at = difference.line.min(lines.len() - 2);
+    println!(
+        "DIFFERENCE on line {} of seed {} (line {} of its batch)",
+        before.lines() + at + 1,
+        task.seed,
+        at + 1
+    );
+    println!("  command: {}", printable(lines[at]));
+    println!("  Rust:    {}", printable(&difference.rust));
+    println!("  program: {}", printable(&difference.program));
+    println!("Looking for the smallest command that shows it ...");
+    let script = lines[..=at].iter().map(|line| line.to_vec()).collect();
+    let mut differs = |script: &[Vec<u8>]| matches!(trial(&task.program, script), Ok(Some(_)));
+    match shrink::smallest(script, &mut differs) {
+        Some(small) => report_smallest(&task.program, &small),
+        None => {
+            println!("A second run of the lines up to this one showed no difference: the program");
+            println!("does not always answer alike, or fails only on the batch's later lines.");
+            Ok(())
+        }
+    }
+}
+
+fn report_smallest(program: &str, script: &[Vec<u8>]) -> io::Result<()> {
+    println!("Smallest:");
+    println!("  {}", shell_line(program, script));
+    if let Some(difference) = trial(program, script)? {
+        println!("  Rust:    {}", printable(&difference.rust));
+        println!("  program: {}", printable(&difference.program));
+    }
+    Ok(())
+}
+
+fn trial(program: &str, lines: &[Vec<u8>]) -> io::Result<Option<Difference>> {
+    let mut script = Vec::new();
+    let mut answers = Vec::new();
+    let mut session = Session::new();
+    for line in lines {
+        session.answer(line, &mut answers);
+        script.extend_from_slice(line);
+        script.push(b'\n');
+    }
+    let script = Arc::new(script);
+    let said = Run::start(program, script.clone(), answers.len(), Stdio::null())?.end()?;
+    Ok(first_difference(&script, &answers, &said))
+}
+
+fn printable(text: &[u8]) -> String {
+    text.escape_ascii().to_string()
+}
+
+fn shell_line(program: &str, script: &[Vec<u8>]) -> String {
+    let plain = |line: &Vec<u8>| line.iter().all(|byte| matches!(byte, b' '..=b'~'));
+    if script.iter().all(plain) {
+        let quoted: Vec<String> = script
+            .iter()
+            .map(|line| shell_word(&String::from_utf8_lossy(line)))
+            .collect();
+        format!(
+            "printf '%s\\n' {} | {}",
+            quoted.join(" "),
+            shell_word(program)
+        )
+    } else {
+        let text: String = script.iter().flat_map(|line| octal(line)).collect();
+        format!("printf '{}' | {}", text, shell_word(program))
+    }
+}
+
+/// A line as printf's own format, where only letters, digits and spaces stand for themselves.
+fn octal(line: &[u8]) -> Vec<char> {
+    let mut text = String::new();
+    for byte in line {
+        match byte {
+            b'a'..=b'z' | b'A'..=b'Z' | b'0'..=b'9' | b' ' => text.push(char::from(*byte)),
+            _ => text.push_str(&format!("\\{byte:03o}")),
+        }
+    }
+    text.push_str("\\n");
+    text.chars().collect()
+}
+
+fn shell_word(word: &str) -> String {
+    let plain = |c: char| c.is_ascii_alphanumeric() || "/._-".contains(c);
+    if !word.is_empty() && word.chars().all(plain) {
+        word.to_string()
+    } else {
+        format!("'{}'", word.replace('\'', "'\\''"))
+    }
+}
+
+/// Lines compared so far, by the command that they say; bad lines come last.
+#[derive(Default)]
+struct Tally {
+    counts: [usize; NAMES.len() + 1],
+}
+
+impl Tally {
+    fn count(&mut self, command: Option<usize>) {
+        self.counts[command.unwrap_or(NAMES.len())] += 1;
+    }
+
+    fn add(&mut self, other: &Tally) {
+        for (count, more) in self.counts.iter_mut().zip(other.counts) {
+            *count += more;
+        }
+    }
+
+    fn lines(&self) -> usize {
+        self.counts.iter().sum()
+    }
+
+    fn text(&self) -> String {
+        let mut text = format!("{} lines compared (", self.lines());
+        for (name, count) in NAMES.iter().zip(self.counts) {
+            if count > 0 {
+                text.push_str(&format!("{name} {count}, "));
+            }
+        }
+        let decode_phase = self.counts[1];
+        text.push_str(&format!("bad {}), ", self.counts[NAMES.len()]));
+        text.push_str(&format!("{decode_phase} decode_phase answers among them"));
+        text
+    }
+}

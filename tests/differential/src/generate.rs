@@ -1,0 +1,365 @@
+//! Scripts that follow from a seed alone: real use, its edges, and some bad lines.
+
+use std::collections::VecDeque;
+
+use crate::captures::any_capture;
+use crate::command::{Command, Rank, LONGEST_LINE};
+use crate::random::Random;
+
+const BAD_LINE_IN: usize = 100;
+const SNIFFED: u32 = 1 << 8 | 1 << 16 | 1 << 24;
+
+/// What a script holds: all commands and some bad lines, or one kind of command alone.
+#[derive(Clone, Copy, PartialEq, Eq)]
+pub enum Kind {
+    Everything,
+    Weight,
+    Phase,
+    Search,
+    Steps,
+    KeptSearch,
+    Better,
+    Lengths,
+}
+
+impl Kind {
+    /// The three commands of the kept search make sense together alone, so each names them all.
+    pub fn named(name: &str) -> Option<Self> {
+        Some(match name {
+            "weight" => Kind::Weight,
+            "phase" => Kind::Phase,
+            "search" => Kind::Search,
+            "steps" => Kind::Steps,
+            "bsnew" | "bsstep" | "bsrun" => Kind::KeptSearch,
+            "better" => Kind::Better,
+            "lengths" => Kind::Lengths,
+            _ => return None,
+        })
+    }
+}
+
+pub struct Generator {
+    random: Random,
+    kind: Kind,
+    /// The rest of a sequence on the kept search.
+    queued: VecDeque<Command>,
+}
+
+impl Generator {
+    pub fn new(seed: u64, kind: Kind) -> Self {
+        Self {
+            random: Random::new(seed),
+            kind,
+            queued: VecDeque::new(),
+        }
+    }
+
+    /// Adds the next line, without an LF.
+    pub fn push_line(&mut self, out: &mut Vec<u8>) {
+        if self.kind == Kind::Everything && self.random.one_in(BAD_LINE_IN) {
+            let good = self.next_command().line();
+            out.extend_from_slice(&spoiled(&good, &mut self.random));
+        } else {
+            self.next_command().write(out);
+        }
+    }
+
+    fn next_command(&mut self) -> Command {
+        if let Some(command) = self.queued.pop_front() {
+            return command;
+        }
+        let kind = match self.kind {
+            Kind::Everything => self.any_kind(),
+            kind => kind,
+        };
+        let random = &mut self.random;
+        match kind {
+            Kind::Weight => Command::Weight {
+                sample: random.byte(),
+            },
+            Kind::Search => Command::Search {
+                mask: any_mask(random),
+                capture: any_capture(random),
+            },
+            Kind::Steps => Command::Steps {
+                mask: any_mask(random),
+                k: any_step_count(random),
+                capture: any_capture(random),
+            },
+            Kind::Better => any_better(random),
+            Kind::Lengths => any_lengths(random),
+            Kind::KeptSearch => self.kept_search_sequence(),
+            Kind::Phase | Kind::Everything => Command::Phase {
+                max: any_maximum(random),
+                phase: any_phase(random),
+                capture: any_capture(random),
+            },
+        }
+    }
+
+    fn any_kind(&mut self) -> Kind {
+        match self.random.below(40) {
+            0 => Kind::Weight,
+            1..=7 => Kind::Search,
+            8..=11 => Kind::Steps,
+            12 | 13 => Kind::KeptSearch,
+            14..=17 => Kind::Better,
+            18 | 19 => Kind::Lengths,
+            _ => Kind::Phase,
+        }
+    }
+
+    /// Queues steps, past Done and past the fifth too, with runs between; gives the first command.
+    fn kept_search_sequence(&mut self) -> Command {
+        let random = &mut self.random;
+        let same_window = random.one_in(2);
+        let first = any_capture(random);
+        let window = |random: &mut Random| {
+            if same_window {
+                first.clone()
+            } else {
+                any_capture(random)
+            }
+        };
+        for _ in 0..random.between(0, 8) {
+            let capture = window(random);
+            self.queued.push_back(Command::BsStep { capture });
+            if random.one_in(4) {
+                let capture = window(random);
+                self.queued.push_back(Command::BsRun { capture });
+            }
+        }
+        let capture = window(random);
+        // Now and then the search goes on where an earlier sequence left it.
+        if random.one_in(10) {
+            return Command::BsRun { capture };
+        }
+        if random.one_in(3) {
+            self.queued.push_front(Command::BsRun { capture });
+        }
+        Command::BsNew {
+            mask: any_mask(random),
+        }
+    }
+}
+
+fn any_phase(random: &mut Random) -> i8 {
+    match random.below(20) {
+        0 => random.pick(&[-128, 127]),
+        1 => random.between(-20, 20) as i8,
+        2 => random.byte() as i8,
+        _ => random.between(-2, 2) as i8,
+    }
+}
+
+fn any_maximum(random: &mut Random) -> u8 {
+    match random.below(10) {
+        0 => random.pick(&[0, 1, 2]),
+        1 => random.pick(&[63, 64, 65, 66]),
+        2 => random.pick(&[71, 72, 73, 254, 255]),
+        3 => random.byte(),
+        _ => 32,
+    }
+}
+
+fn any_mask(random: &mut Random) -> u32 {
+    match random.below(12) {
+        0..=3 => SNIFFED,
+        4 | 5 => 1 << 8,
+        6 => 0,
+        7 => random.pick(&[1, 2, 4, 7, 1 << 31, u32::MAX]),
+        8 => SNIFFED | random.pick(&[1, 2, 4, 1 << 31]),
+        9 => 1 << random.below(32),
+        10 => random.any() as u32 & random.any() as u32,
+        _ => random.any() as u32,
+    }
+}
+
+fn any_step_count(random: &mut Random) -> u8 {
+    match random.below(40) {
+        0 => random.byte(),
+        1 | 2 => random.between(9, 20) as u8,
+        _ => random.between(0, 8) as u8,
+    }
+}
+
+fn any_better(random: &mut Random) -> Command {
+    let mask = any_mask(random);
+    let candidate = Rank {
+        len: any_length(random),
+        phase: any_phase(random),
+        score: any_score(random),
+    };
+    let current = Rank {
+        len: near_length(random, candidate.len),
+        phase: near_phase(random, candidate.phase),
+        score: near_score(random, candidate.score),
+    };
+    Command::Better {
+        mask,
+        candidate,
+        current,
+    }
+}
+
+fn any_length(random: &mut Random) -> u8 {
+    match random.below(4) {
+        0 => random.pick(&[8, 16, 24]),
+        1 => random.below(40) as u8,
+        2 => random.pick(&[0, 1, 2, 3, 31, 32, 255]),
+        _ => random.byte(),
+    }
+}
+
+fn near_length(random: &mut Random, length: u8) -> u8 {
+    if random.one_in(2) {
+        length
+    } else {
+        any_length(random)
+    }
+}
+
+fn any_score(random: &mut Random) -> u16 {
+    match random.below(4) {
+        0 => random.pick(&[0, 1, 255, 256, 65534, 65535]),
+        1 => random.any() as u16,
+        _ => random.below(900) as u16,
+    }
+}
+
+fn near_score(random: &mut Random, score: u16) -> u16 {
+    match random.below(6) {
+        0 => score.saturating_add(1),
+        1 => score.saturating_sub(1),
+        // Equal in the low byte, or in the high one alone.
+        2 => score ^ 0x0100,
+        3 => any_score(random),
+        _ => score,
+    }
+}
+
+fn near_phase(random: &mut Random, phase: i8) -> i8 {
+    match random.below(6) {
+        0 | 1 => phase.wrapping_neg(),
+        2 => phase.wrapping_add(1),
+        3 => 0,
+        4 => any_phase(random),
+        _ => phase,
+    }
+}
+
+fn any_lengths(random: &mut Random) -> Command {
+    let size = match random.below(8) {
+        0 => 0,
+        1 => random.below(200),
+        2 => random.between(900, 1018) as usize,
+        _ => random.between(1, 6) as usize,
+    };
+    let mut bytes = Vec::with_capacity(size);
+    for _ in 0..size {
+        bytes.push(match random.below(3) {
+            0 => random.pick(&[8, 16, 24, 0, 31, 32, 33, 63, 64, 255]),
+            1 => random.below(34) as u8,
+            _ => random.byte(),
+        });
+    }
+    let n = match random.below(4) {
+        0 => random.pick(&[0, 8, 16, 24, 31, 32, 33, 64, 255]),
+        1 => random.byte(),
+        _ if bytes.is_empty() => random.below(34) as u8,
+        _ => random.pick(&bytes),
+    };
+    Command::Lengths { bytes, n }
+}
+
+/// A good line made bad in one of the ways that a line can be bad.
+pub fn spoiled(line: &[u8], random: &mut Random) -> Vec<u8> {
+    let way = random.below(SPOILED_WAYS);
+    spoiled_in_way(line, way, random)
+}
+
+pub const SPOILED_WAYS: usize = 22;
+
+pub fn spoiled_in_way(line: &[u8], way: usize, random: &mut Random) -> Vec<u8> {
+    let mut fields: Vec<Vec<u8>> = line
+        .split(|byte| *byte == b' ')
+        .map(<[u8]>::to_vec)
+        .collect();
+    let last = fields.len() - 1;
+    let one = random.between(1, last as i32) as usize;
+    match way {
+        0 => fields[0] = unknown_word(random),
+        1 => drop(fields.remove(one)),
+        2 => fields.push(random.pick(&[&b"0"[..], b"00", b"-", b"x"]).to_vec()),
+        3 => fields.insert(one, Vec::new()),
+        4 => fields.insert(0, Vec::new()),
+        5 => fields.push(Vec::new()),
+        6 => fields[0].make_ascii_uppercase(),
+        7 => fields[last].fill(b'A'),
+        8 => fields[one].insert(0, b'0'),
+        9 => fields[one] = b"-0".to_vec(),
+        10 => fields[one] = out_of_range(random),
+        11 => drop(fields[last].pop()),
+        12 => {
+            let kept = fields[last].len().saturating_sub(2);
+            fields[last].truncate(kept);
+        }
+        13 => fields[last].extend_from_slice(b"00"),
+        14 => return Vec::new(),
+        15 => return over_long(line, random),
+        16 => fields[last].push(b'\r'),
+        17 => {
+            return line
+                .iter()
+                .map(|byte| if *byte == b' ' { b'\t' } else { *byte })
+                .collect()
+        }
+        18 => fields[one].insert(0, random.pick(b"+-")),
+        19 => {
+            let at = random.below(fields[last].len());
+            fields[last][at] = random.pick(b"gGxA/:@`\0\x7f\xff");
+        }
+        20 => fields.truncate(1),
+        _ => return any_line(random),
+    }
+    fields.join(&b' ')
+}
+
+fn unknown_word(random: &mut Random) -> Vec<u8> {
+    let words: [&[u8]; 8] = [
+        b"weigh", b"weights", b"phases", b"searc", b"bsne", b"bs", b"length", b"nosuch",
+    ];
+    random.pick(&words).to_vec()
+}
+
+fn out_of_range(random: &mut Random) -> Vec<u8> {
+    let numbers: [&[u8]; 9] = [
+        b"256",
+        b"65536",
+        b"65792",
+        b"-129",
+        b"128",
+        b"100000",
+        b"4294967296",
+        b"18446744073709551616",
+        b"",
+    ];
+    random.pick(&numbers).to_vec()
+}
+
+fn over_long(line: &[u8], random: &mut Random) -> Vec<u8> {
+    let size = LONGEST_LINE + random.pick(&[1, 1, 2, 3, 100, LONGEST_LINE, 3 * LONGEST_LINE]);
+    let mut long = line.to_vec();
+    if random.one_in(2) {
+        long = b"lengths ".to_vec();
+    }
+    long.resize(size, random.pick(b"0 8"));
+    long
+}
+
+fn any_line(random: &mut Random) -> Vec<u8> {
+    (0..random.between(1, 12))
+        .map(|_| random.byte())
+        .filter(|byte| *byte != b'\n')
+        .collect()
+}

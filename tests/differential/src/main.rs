@@ -1,0 +1,188 @@
+//! The Rust side of the differential runs: answers the call protocol over the unchanged Rust, makes
+//! scripts, and compares another program's answers with the Rust's.
+
+mod answer;
+mod captures;
+mod command;
+mod compare;
+mod generate;
+mod original;
+mod random;
+mod shrink;
+mod stored;
+
+// The unchanged files name each other from the crate's root.
+use original::{fsm, halfbits, manchester, phy, platform};
+
+use std::io::{self, BufRead, BufWriter, Write};
+use std::path::Path;
+use std::process::ExitCode;
+
+use generate::{Generator, Kind};
+
+const USAGE: &str = "usage:
+  differential answer                                 answers the protocol on standard input
+  differential generate --seed S --commands N [--only COMMAND]
+  differential compare --calls PROGRAM --seed S --commands N [--only COMMAND] [--batch B]
+  differential store --to FOLDER                      writes FOLDER/stdin and FOLDER/stdout";
+
+const USUAL_BATCH: usize = 50_000;
+const DIFFERENT: u8 = 1;
+const MISUSED_OR_BROKEN: u8 = 2;
+
+fn main() -> ExitCode {
+    let words: Vec<String> = std::env::args().skip(1).collect();
+    match run(&words) {
+        Ok(true) => ExitCode::SUCCESS,
+        Ok(false) => ExitCode::from(DIFFERENT),
+        Err(message) => {
+            eprintln!("differential: {message}");
+            ExitCode::from(MISUSED_OR_BROKEN)
+        }
+    }
+}
+
+/// False for a difference.
+fn run(words: &[String]) -> Result<bool, String> {
+    let (verb, rest) = words.split_first().ok_or(USAGE)?;
+    let options = Options::read(rest)?;
+    match verb.as_str() {
+        "answer" => {
+            options.allow(&[])?;
+            quiet_on_closed_pipe(answer())
+        }
+        "generate" => {
+            options.allow(&["--seed", "--commands", "--only"])?;
+            quiet_on_closed_pipe(generate(&options)?)
+        }
+        "compare" => {
+            options.allow(&["--calls", "--seed", "--commands", "--only", "--batch"])?;
+            let task = options.task()?;
+            compare::compare(&task).map_err(|error| format!("{}: {error}", task.program))
+        }
+        "store" => {
+            options.allow(&["--to"])?;
+            let folder = options.text("--to")?;
+            store(Path::new(folder)).map_err(|error| format!("{folder}: {error}"))
+        }
+        _ => Err(format!("there is no command {verb}\n{USAGE}")),
+    }
+}
+
+fn answer() -> io::Result<()> {
+    let mut input = io::stdin().lock();
+    let mut output = BufWriter::new(io::stdout().lock());
+    let mut session = answer::Session::new();
+    let mut line = Vec::new();
+    let mut text = Vec::new();
+    while input.read_until(b'\n', &mut line)? > 0 {
+        session.answer(line.strip_suffix(b"\n").unwrap_or(&line), &mut text);
+        output.write_all(&text)?;
+        line.clear();
+        text.clear();
+    }
+    output.flush()
+}
+
+fn generate(options: &Options) -> Result<io::Result<()>, String> {
+    let mut generator = Generator::new(options.seed()?, options.kind()?);
+    let commands = options.commands()?;
+    Ok(write_lines(&mut generator, commands))
+}
+
+fn write_lines(generator: &mut Generator, lines: usize) -> io::Result<()> {
+    let mut output = BufWriter::new(io::stdout().lock());
+    let mut line = Vec::new();
+    for _ in 0..lines {
+        generator.push_line(&mut line);
+        line.push(b'\n');
+        output.write_all(&line)?;
+        line.clear();
+    }
+    output.flush()
+}
+
+fn store(folder: &Path) -> io::Result<bool> {
+    let script = stored::script();
+    std::fs::write(folder.join("stdin"), &script)?;
+    std::fs::write(folder.join("stdout"), stored::answers(&script))?;
+    Ok(true)
+}
+
+/// A reader that has seen enough is no fault.
+fn quiet_on_closed_pipe(done: io::Result<()>) -> Result<bool, String> {
+    match done {
+        Err(error) if error.kind() != io::ErrorKind::BrokenPipe => Err(error.to_string()),
+        _ => Ok(true),
+    }
+}
+
+struct Options<'a> {
+    pairs: Vec<(&'a str, &'a str)>,
+}
+
+impl<'a> Options<'a> {
+    fn read(words: &'a [String]) -> Result<Self, String> {
+        let mut pairs = Vec::new();
+        for pair in words.chunks(2) {
+            match pair {
+                [name, value] if name.starts_with("--") => pairs.push((&**name, &**value)),
+                _ => return Err(format!("{} has no value\n{USAGE}", pair[0])),
+            }
+        }
+        Ok(Self { pairs })
+    }
+
+    fn allow(&self, names: &[&str]) -> Result<(), String> {
+        match self.pairs.iter().find(|(name, _)| !names.contains(name)) {
+            Some((name, _)) => Err(format!("{name} is no option here\n{USAGE}")),
+            None => Ok(()),
+        }
+    }
+
+    fn find(&self, name: &str) -> Option<&'a str> {
+        let found = self.pairs.iter().find(|(given, _)| *given == name);
+        found.map(|(_, value)| *value)
+    }
+
+    fn text(&self, name: &str) -> Result<&'a str, String> {
+        self.find(name).ok_or(format!("{name} is missing\n{USAGE}"))
+    }
+
+    fn seed(&self) -> Result<u64, String> {
+        let text = self.text("--seed")?;
+        text.parse()
+            .map_err(|_| format!("--seed {text}: not a number"))
+    }
+
+    fn positive(name: &str, text: &str) -> Result<usize, String> {
+        match text.parse() {
+            Ok(number) if number > 0 => Ok(number),
+            _ => Err(format!("{name} {text}: not a number above 0")),
+        }
+    }
+
+    fn commands(&self) -> Result<usize, String> {
+        Self::positive("--commands", self.text("--commands")?)
+    }
+
+    fn kind(&self) -> Result<Kind, String> {
+        match self.find("--only") {
+            None => Ok(Kind::Everything),
+            Some(name) => Kind::named(name).ok_or(format!("--only {name}: no such command")),
+        }
+    }
+
+    fn task(&self) -> Result<compare::Task, String> {
+        Ok(compare::Task {
+            program: self.text("--calls")?.to_string(),
+            seed: self.seed()?,
+            commands: self.commands()?,
+            kind: self.kind()?,
+            batch: match self.find("--batch") {
+                None => USUAL_BATCH,
+                Some(text) => Self::positive("--batch", text)?,
+            },
+        })
+    }
+}
