@@ -38,7 +38,7 @@ pub moved : (p a m : ℕ) → pos p +ℤ subℕ a m ≡ subℕ (p + a) m
 moved p a m = +ℤ-comm (pos p) (subℕ a m) ∙ further a m p ∙ ap (λ n. subℕ n m) (omega arith)
 
 -- ---- a tick is a bit of its byte
-pub tick-is : (w : SampleWindow) (p : ℕ) → tickAt w p ≡ byteAt w (p / 8) 0 / 2 ^ (7 - p % 8) % 2
+pub tick-is : (w : SampleWindow) (p : ℕ) → tickAt w p ≡ byteAt (w .bytes) (w .len) (p / 8) 0 / 2 ^ (7 - p % 8) % 2
 unfolding tickAt byteAt
 tick-is w p = go (ltb (p / 8) (w .len)) refl
   where
@@ -63,35 +63,35 @@ window-of-two first next r s e small =
     ∙ rw (high first s (shr-lt s r next-lt), low first s (shr-lt s r next-lt), shr-mod s r next-lt)
 
 module _ (w : SampleWindow) (p : ℕ) where
-  in-first : packed 2 (8 - p % 8) (λ (i : ℕ). tickAt w (p + i)) ≡ byteAt w (p / 8) 0 % 2 ^ (8 - p % 8)
+  in-first : packed 2 (8 - p % 8) (λ (i : ℕ). tickAt w (p + i)) ≡ byteAt (w .bytes) (w .len) (p / 8) 0 % 2 ^ (8 - p % 8)
   in-first =
       let r = 8 - p % 8 in
-      packed-same 2 r (λ i. tickAt w (p + i)) (λ i. byteAt w (p / 8) 0 / 2 ^ (0 + (r - 1 - i)) % 2)
+      packed-same 2 r (λ i. tickAt w (p + i)) (λ i. byteAt (w .bytes) (w .len) (p / 8) 0 / 2 ^ (0 + (r - 1 - i)) % 2)
       (λ i h. let q : (p + i) / 8 ≡ p / 8 = omega arith in let b : 7 - (p + i) % 8 ≡ 0 + (8 - p % 8 - 1 - i) = omega arith in tick-is w (p + i) ∙ rw (q, b))
-      ∙ packed-bits r 0 (byteAt w (p / 8) 0)
-      ∙ ap (λ x. x % 2 ^ r) (div-one (byteAt w (p / 8) 0))
+      ∙ packed-bits r 0 (byteAt (w .bytes) (w .len) (p / 8) 0)
+      ∙ ap (λ x. x % 2 ^ r) (div-one (byteAt (w .bytes) (w .len) (p / 8) 0))
 
-  in-next : packed 2 (p % 8) (λ (i : ℕ). tickAt w (p + (8 - p % 8 + i))) ≡ byteAt w (p / 8 + 1) 0 / 2 ^ (8 - p % 8) % 2 ^ (p % 8)
+  in-next : packed 2 (p % 8) (λ (i : ℕ). tickAt w (p + (8 - p % 8 + i))) ≡ byteAt (w .bytes) (w .len) (p / 8 + 1) 0 / 2 ^ (8 - p % 8) % 2 ^ (p % 8)
   in-next =
       let s = p % 8 in
-      packed-same 2 s (λ i. tickAt w (p + (8 - s + i))) (λ i. byteAt w (p / 8 + 1) 0 / 2 ^ (8 - s + (s - 1 - i)) % 2)
+      packed-same 2 s (λ i. tickAt w (p + (8 - s + i))) (λ i. byteAt (w .bytes) (w .len) (p / 8 + 1) 0 / 2 ^ (8 - s + (s - 1 - i)) % 2)
       (λ i h. let q : (p + (8 - p % 8 + i)) / 8 ≡ p / 8 + 1 = omega arith in let b : 7 - (p + (8 - p % 8 + i)) % 8 ≡ 8 - p % 8 + (p % 8 - 1 - i) = omega arith in tick-is w (p + (8 - p % 8 + i)) ∙ rw (q, b))
-      ∙ packed-bits s (8 - s) (byteAt w (p / 8 + 1) 0)
+      ∙ packed-bits s (8 - s) (byteAt (w .bytes) (w .len) (p / 8 + 1) 0)
 
   eight : packed 2 8 (λ (i : ℕ). tickAt w (p + i))
-      ≡ byteAt w (p / 8) 0 % 2 ^ (8 - p % 8) * 2 ^ (p % 8) + byteAt w (p / 8 + 1) 0 / 2 ^ (8 - p % 8) % 2 ^ (p % 8)
+      ≡ byteAt (w .bytes) (w .len) (p / 8) 0 % 2 ^ (8 - p % 8) * 2 ^ (p % 8) + byteAt (w .bytes) (w .len) (p / 8 + 1) 0 / 2 ^ (8 - p % 8) % 2 ^ (p % 8)
   eight =
       let e : 8 ≡ 8 - p % 8 + p % 8 = omega arith in
       ap (λ k. packed 2 k (λ (i : ℕ). tickAt w (p + i))) e
       ∙ packed-add 2 (8 - p % 8) (p % 8) (λ (i : ℕ). tickAt w (p + i))
       ∙ rw (in-first, in-next)
 
-  pub two-bytes : byteAt w (p / 8 + 1) 0 < 256
-      → (byteAt w (p / 8) 0 * 256 + byteAt w (p / 8 + 1) 0) / 2 ^ (8 - p % 8) % 256 ≡ packed 2 8 (λ (i : ℕ). tickAt w (p + i))
+  pub two-bytes : byteAt (w .bytes) (w .len) (p / 8 + 1) 0 < 256
+      → (byteAt (w .bytes) (w .len) (p / 8) 0 * 256 + byteAt (w .bytes) (w .len) (p / 8 + 1) 0) / 2 ^ (8 - p % 8) % 256 ≡ packed 2 8 (λ (i : ℕ). tickAt w (p + i))
   two-bytes small = window-of-two _ _ (8 - p % 8) (p % 8) (omega arith) small ∙ sym eight
 
 -- ---- peeks that begin before the start
-pub first-level : (w : SampleWindow) (b : ℕ) → b ≡ byteAt w 0 255 → b < 256 → b / 128 ≡ pick (ltb 0 (w .len)) (tickAt w 0) 1
+pub first-level : (w : SampleWindow) (b : ℕ) → b ≡ byteAt (w .bytes) (w .len) 0 255 → b < 256 → b / 128 ≡ pick (ltb 0 (w .len)) (tickAt w 0) 1
 unfolding byteAt tickAt
 first-level w b e small = go (ltb 0 (w .len)) refl
   where

@@ -1,5 +1,6 @@
 -- What the private functions promise, in the terms of "Window" and "One phase". No public promise cites this file. Assumes nothing.
 use Prim.Native.Nat.{ℕ, _+_, _-_, _*_, _/_, _%_, _^_, min}
+use mathlib.Core.List.{List}
 use lib.Dec.{ltb, eqb}
 use lib.IntN.{ℤ}
 use lib.ListN.{length, getD}
@@ -15,8 +16,8 @@ use Rattle.window.specs.declared.PhaseRead.the-variants as read
 use Rattle.window.specs.Phase.{peekOf, weightAround, strideAround, PhaseBits, held, bits, scoreOf, storedBits, dataBit}
 
 -- a byte of the window, or another past the pad
-unfoldable pub byteAt : SampleWindow → ℕ → ℕ → ℕ
-byteAt w k past = pick (ltb k (w .len)) (getD (w .bytes) k 0) past
+unfoldable pub byteAt : List ℕ → ℕ → ℕ → ℕ → ℕ
+byteAt bytes len k past = pick (ltb k len) (getD bytes k 0) past
 
 unfoldable pub stopOf : ℕ → PeekStop
 stopOf sample = pick (eqb sample 255) Idle (pick (eqb sample 0) Held None)

@@ -8,15 +8,19 @@ use Rattle.laws.specs.Packed.{packed}
 use Rattle.laws.specs.Pick.{pick}
 use Rattle.window.specs.declared.SampleWindow.{SampleWindow}
 
+-- a window by its parts: the store, how many of its bytes are samples or the pad, and how many bits the samples have
+abbrev pub windowWith : List ℕ → ℕ → ℕ → SampleWindow
+windowWith bytes len bits = record { bytes = bytes; len = len; bits = bits }
+
 -- At most 64 samples and one 0xFF pad. The store behind the pad is zero.
 unfoldable pub windowOf : List ℕ → ℕ → SampleWindow
 windowOf samples count =
     let n = min count 64 in
-    record { bytes = take n samples ++ (255 ∷ replicate (65 - n) 0); len = n + 1; bits = n * 8 }
+    windowWith (take n samples ++ (255 ∷ replicate (65 - n) 0)) (n + 1) (n * 8)
 
 -- The fixed empty window has neither a sample nor the pad.
 unfoldable pub emptyWindow : SampleWindow
-emptyWindow = record { bytes = replicate 66 0; len = 0; bits = 0 }
+emptyWindow = windowWith (replicate 66 0) 0 0
 
 -- The sample bits: no window has more than those of 64 samples.
 abbrev pub sampleBits : SampleWindow → ℕ

@@ -4,7 +4,7 @@ ghost use Prim.Native.Nat.{min, max, _+_, _-_, _^_, _≤_, _<_};
 ghost use lib.Dec.{ltb};
 ghost use lib.IntN.{pos, subℕ, _+ℤ_};
 ghost use Rattle.laws.specs.Pick.{pick};
-ghost use Rattle.window.specs.Window.{windowOf, emptyWindow, levelBefore, peekAt};
+ghost use Rattle.window.specs.Window.{windowWith, windowOf, emptyWindow, levelBefore, peekAt};
 ghost use Rattle.window.specs.Phase.{held, decodeOf, phaseOf, bitsOf, strideOf};
 ghost use Rattle.window.specs.Code.{byteAt, stopOf, aroundOf, summaryOf, storedOf, pushedOf, placedOf};
 
@@ -112,63 +112,66 @@ impl SampleWindow {
         window
     }
 
+    // The peeks are lent the window's parts, since a window by value would be copied at each call.
+
     // The byte at a place, or what is asked for in its stead past the pad.
-    fn byte(self, pos: u16, past: u8) -> u8
-        ensures { λ r. ⌜ r ≡ byteAt self pos past ⌝ }
+    fn byte(bytes: &[u8; WINDOW_LEN], len: u16, pos: u16, past: u8) -> u8
+        ensures { λ r. ⌜ r ≡ byteAt (now (bytes .entry)) len pos past ⌝ }
     {
-        if self.len <= pos {
+        let bytes: &[u8] = bytes;
+        if len <= pos {
             return past;
         }
         let i = pos as usize;
-        if WINDOW_LEN <= i {
+        if bytes.len() <= i {
             return 0;
         }
-        self.bytes[i]
+        bytes[i]
     }
 
     // One tick of a peek that begins before the start.
-    fn sample_bit(self, at: u16) -> u8
-        ensures { λ r. ⌜ r ≡ levelBefore self (subℕ at 128) ⌝ }
+    fn sample_bit(bytes: &[u8; WINDOW_LEN], len: u16, bits: u16, at: u16) -> u8
+        ensures { λ r. ⌜ r ≡ levelBefore (windowWith (now (bytes .entry)) len bits) (subℕ at 128) ⌝ }
     {
         if at < EARLIEST {
-            return self.byte(0, PEEK_IDLE) / 128;
+            return SampleWindow::byte(bytes, len, 0, PEEK_IDLE) / 128;
         }
         let bitpos = at - EARLIEST;
-        if self.bits <= bitpos {
+        if bits <= bitpos {
             return 1;
         }
-        let byte = self.byte(bitpos / 8, 0);
+        let byte = SampleWindow::byte(bytes, len, bitpos / 8, 0);
         (byte >> (7 - bitpos % 8)) % 2
     }
 
-    fn peek_before_start(self, at: u16) -> u8
+    fn peek_before_start(bytes: &[u8; WINDOW_LEN], len: u16, bits: u16, at: u16) -> u8
         requires { ⌜ at < 128 ⌝ }
-        ensures { λ r. ⌜ r ≡ peekAt self (subℕ at 128) ⌝ }
+        ensures { λ r. ⌜ r ≡ peekAt (windowWith (now (bytes .entry)) len bits) (subℕ at 128) ⌝ }
     {
         let mut sample: u8 = 0;
         let mut offset: u16 = 0;
         while offset < 8 {
-            sample = sample * 2 + self.sample_bit(at + offset);
+            sample = sample * 2 + SampleWindow::sample_bit(bytes, len, bits, at + offset);
             offset += 1;
         }
         sample
     }
 
     // Eight ticks, the first on top.
-    fn peek8(self, at: u16) -> u8
+    fn peek8(bytes: &[u8; WINDOW_LEN], len: u16, bits: u16, at: u16) -> u8
         requires { ⌜ at ≤ 1000 ⌝ }
-        ensures { λ r. ⌜ r ≡ peekAt self (subℕ at 128) ⌝ }
+        ensures { λ r. ⌜ r ≡ peekAt (windowWith (now (bytes .entry)) len bits) (subℕ at 128) ⌝ }
     {
         if at < EARLIEST {
-            return self.peek_before_start(at);
+            return SampleWindow::peek_before_start(bytes, len, bits, at);
         }
         let shifted = at - EARLIEST;
         let pos = shifted / 8;
-        if self.len <= pos {
+        if len <= pos {
             return PEEK_IDLE;
         }
-        let first = self.byte(pos, 0) as u16;
-        let next = self.byte(pos + 1, 0) as u16;
+        let first = SampleWindow::byte(bytes, len, pos, 0) as u16;
+        let next = SampleWindow::byte(bytes, len, pos + 1, 0) as u16;
         (((first * 256 + next) >> (8 - shifted % 8)) % 256) as u8
     }
 
@@ -178,9 +181,11 @@ impl SampleWindow {
         ensures { λ r. ⌜ r ≡ aroundOf self (subℕ bias 128) bitpos ⌝ }
     {
         let at = bitpos + bias;
-        let centre = self.peek8(at);
-        let early = self.peek8(at - 1);
-        let late = self.peek8(at + 1);
+        let len = self.len;
+        let bits = self.bits;
+        let centre = SampleWindow::peek8(&self.bytes, len, bits, at);
+        let early = SampleWindow::peek8(&self.bytes, len, bits, at - 1);
+        let late = SampleWindow::peek8(&self.bytes, len, bits, at + 1);
         let centre_weight = weight::sample_weight(centre);
         let early_weight = weight::sample_weight(early);
         let late_weight = weight::sample_weight(late);

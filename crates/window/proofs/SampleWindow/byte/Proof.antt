@@ -2,9 +2,7 @@
 use borrow.Author.Needs.{needs}
 use borrow.Author.Tests.{lt-ltb, le-ltb}
 use Rattle.laws.proofs.Picked.{on-true, on-false}
-use mathlib.Core.Path.{_≡_}
-use native.Mathlib.Omega.{arith}
-use lib.ListN.{length, List·getD-eq-default}
+use lib.ListN.{List·getD-eq-default}
 use Rattle.window.specs.Code.{byteAt}
 use Rattle.window.proofs.SampleWindow.byte.Statement.{statement}
 use Rattle.window.proofs.SampleWindow.byte.Tie as tie
@@ -15,18 +13,17 @@ returns c = rw (on-false (le-ltb _ _ (c .if1 .taken)))
 
 returns-2 : tie.Need-returns-2
 unfolding byteAt
-returns-2 c = let long : length (c .before .before .args .t1 .bytes) ≡ 66 = search needs in
-    rw (
-      on-true (lt-ltb _ _ (c .before .if1 .left)),
-      List·getD-eq-default (c .before .before .args .t1 .bytes) 0 {n = c .before .before .args .pos} (omega arith),
-    )
+returns-2 c = rw (
+  on-true (lt-ltb _ _ (c .before .if1 .left)),
+  List·getD-eq-default (c .before .before .before .args .bytes .now) 0 {n = c .before .before .before .args .pos} (c .if2 .taken),
+)
 
-element-copy-out-result : tie.Need-element-copy-out-result
-element-copy-out-result c = search needs
+shared-slice-read-result : tie.Need-shared-slice-read-result
+shared-slice-read-result c = search needs
 
 returns-3 : tie.Need-returns-3
 unfolding byteAt
 returns-3 c = rw (on-true (lt-ltb _ _ (c .before .before .if1 .left)))
 
 pub byte-spec : {M : Type 1} → statement M
-byte-spec = tie.close (tie.spec returns returns-2 element-copy-out-result returns-3)
+byte-spec = tie.close (tie.spec returns returns-2 shared-slice-read-result returns-3)

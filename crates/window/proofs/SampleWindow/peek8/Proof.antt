@@ -6,14 +6,14 @@ use Prim.Native.Nat.{ℕ, _+_, _*_, _-_, _/_, _%_, _^_, _≤_, _<_}
 use lib.IntN.{subℕ}
 use Rattle.laws.proofs.Picked.{on-true, on-false}
 use Rattle.window.specs.declared.SampleWindow.{SampleWindow}
-use Rattle.window.specs.Window.{peekAt}
+use Rattle.window.specs.Window.{windowWith, peekAt}
 use Rattle.window.specs.Code.{byteAt}
 use Rattle.window.proofs.Peeks.{from, two-bytes}
 use Rattle.window.proofs.SampleWindow.peek8.Statement.{statement}
 use Rattle.window.proofs.SampleWindow.peek8.Tie as tie
 
-joined : (w : SampleWindow) (at first next : ℕ) → 128 ≤ at → (at - 128) / 8 < w .len → first ≡ byteAt w ((at - 128) / 8) 0
-    → next ≡ byteAt w ((at - 128) / 8 + 1) 0 → next < 256 → (first * 256 + next) / 2 ^ (8 - (at - 128) % 8) % 256 ≡ peekAt w (subℕ at 128)
+joined : (w : SampleWindow) (at first next : ℕ) → 128 ≤ at → (at - 128) / 8 < w .len → first ≡ byteAt (w .bytes) (w .len) ((at - 128) / 8) 0
+    → next ≡ byteAt (w .bytes) (w .len) ((at - 128) / 8 + 1) 0 → next < 256 → (first * 256 + next) / 2 ^ (8 - (at - 128) % 8) % 256 ≡ peekAt w (subℕ at 128)
 unfolding peekAt
 joined w at first next h k e d small =
     rw (from at h, on-true (lt-ltb ((at - 128) / 8) (w .len) k), e, d) (two-bytes w (at - 128) (rw d at small))
@@ -26,7 +26,7 @@ returns c = search needs
 
 returns-2 : tie.Need-returns-2
 unfolding peekAt
-returns-2 c = rw (from _ (c .before .before .if1 .left), on-false (le-ltb _ _ (c .if2 .taken)))
+returns-2 c = rw (from _ (c .before .if1 .left), on-false (le-ltb _ _ (c .if2 .taken)))
 
 byte-requires : tie.Need-byte-requires
 byte-requires c κs = search needs
@@ -59,7 +59,8 @@ cast-result : tie.Need-cast-result
 cast-result c = search needs
 
 returns-3 : tie.Need-returns-3
-returns-3 c = joined _ _ _ _ (c .before .before .before .before .if1 .left) (c .before .before .if2 .left) (c .before .byte .ensures) (c .byte2 .ensures) (search needs)
+returns-3 c = let a = c .before .before .before .before .args in
+    joined (windowWith (a .bytes .now) (a .len) (a .bits)) _ _ _ (c .before .before .before .if1 .left) (c .before .before .if2 .left) (c .before .byte .ensures) (c .byte2 .ensures) (search needs)
 
 pub peek8-spec : {M : Type 1} → statement M
 peek8-spec =

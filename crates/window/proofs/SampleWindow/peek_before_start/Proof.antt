@@ -10,7 +10,7 @@ use lib.Pow.{pow-mono}
 use Rattle.laws.specs.Packed.{packed}
 use Rattle.laws.proofs.Digits.{packed-lt}
 use Rattle.window.specs.declared.SampleWindow.{SampleWindow}
-use Rattle.window.specs.Window.{levelBefore}
+use Rattle.window.specs.Window.{windowWith, levelBefore}
 use Rattle.window.proofs.Peeks.{level-lt, peek-before}
 use Rattle.window.proofs.SampleWindow.peek_before_start.Statement.{statement}
 use Rattle.window.proofs.SampleWindow.peek_before_start.Tie as tie
@@ -31,10 +31,10 @@ unfolding packed
 turn w at n s r e d = rw (e, d, add-one n)
 
 abbrev Inv-loop : tie.InvT-loop
-Inv-loop self at sample₀ offset₀ sample offset = (offset ≤ 8) × (sample ≡ packed 2 offset (ticks self at))
+Inv-loop bytes len bits at sample₀ offset₀ sample offset = (offset ≤ 8) × (sample ≡ packed 2 offset (ticks (windowWith bytes len bits) at))
 
 abbrev μ-loop : tie.MeasureT-loop
-μ-loop self at sample₀ offset₀ sample offset = 8 - offset
+μ-loop bytes len bits at sample₀ offset₀ sample offset = 8 - offset
 
 loop-holds : tie.Need-loop-holds Inv-loop μ-loop
 unfolding packed
@@ -50,7 +50,9 @@ sample-bit-requires : tie.Need-sample-bit-requires Inv-loop μ-loop
 sample-bit-requires c κs = search needs
 
 add-sample : tie.Need-add-sample Inv-loop μ-loop
-add-sample c = record { fits = omega (arith, small _ _ _ _ (c .before .loop-test .taken) (c .before .before .loop .inv .1), level (c .before .before .before .args .self) (c .before .before .before .args .at + c .before .before .loop .offset) _ (c .sample-bit .ensures)) }
+add-sample c = let a = c .before .before .before .args in
+    let r = level (windowWith (a .bytes .now) (a .len) (a .bits)) (a .at + c .before .before .loop .offset) _ (c .sample-bit .ensures) in
+    record { fits = omega (arith, small _ _ _ _ (c .before .loop-test .taken) (c .before .before .loop .inv .1), r) }
 
 add-offset : tie.Need-add-offset Inv-loop μ-loop
 add-offset c = omega arith
@@ -62,8 +64,9 @@ loop-again : tie.Need-loop-again Inv-loop μ-loop
 loop-again c = (omega arith, turn _ _ _ _ _ (c .before .before .loop .inv .1) (c .sample-bit .ensures))
 
 returns : tie.Need-returns Inv-loop μ-loop
-returns c = let e : c .before .loop .offset ≡ 8 = omega arith in
-    (c .before .loop .inv .1) ∙ rw (e, ← peek-before (c .before .before .args .self) (c .before .before .args .at) (c .before .before .pre))
+returns c = let a = c .before .before .args in
+    let e : c .before .loop .offset ≡ 8 = omega arith in
+    (c .before .loop .inv .1) ∙ rw (e, ← peek-before (windowWith (a .bytes .now) (a .len) (a .bits)) (a .at) (c .before .before .pre))
 
 pub peek-before-start-spec : {M : Type 1} → statement M
 peek-before-start-spec =

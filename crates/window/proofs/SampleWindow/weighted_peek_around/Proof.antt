@@ -82,7 +82,7 @@ stop-of-requires : tie.Need-stop-of-requires
 stop-of-requires c κs = search needs
 
 returns : tie.Need-returns
-returns c = put _ _ _ (c .before .before .before .before .before .before .before .before .before .before .pre .0) (c .before .before .before .before .before .before .before .before .before .peek8 .ensures) (c .before .before .before .before .before .before .sample-weight .ensures) (c .before .before .before .before .before .before .before .before .peek82 .ensures) (c .before .before .before .before .before .sample-weight2 .ensures) (c .before .before .before .before .before .before .before .peek83 .ensures) (c .before .before .before .before .sample-weight3 .ensures)
+returns c = put (c .before .before .before .before .before .before .before .before .before .before .before .before .before .before .before .before .args .t1) _ _ (c .before .before .before .before .before .before .before .before .before .before .before .before .before .before .before .before .pre .0) (c .before .before .before .before .before .before .before .before .before .before .before .before .before .peek8 .ensures) (c .before .before .before .before .before .before .sample-weight .ensures) (c .before .before .before .before .before .before .before .before .before .before .peek82 .ensures) (c .before .before .before .before .before .sample-weight2 .ensures) (c .before .before .before .before .before .before .before .peek83 .ensures) (c .before .before .before .before .sample-weight3 .ensures)
     (c .before .before .before .larger .ensures) (c .before .before .larger2 .ensures) (c .before .stride .ensures) (c .stop-of .ensures)
 
 pub weighted-peek-around-spec : {M : Type 1} → statement M

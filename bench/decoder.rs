@@ -1,0 +1,178 @@
+//! Times the proved decoder beside the Rust's on the same captures, in one run, and prints ratios.
+//!
+//! Both sides are called one capture at a time through functions that the compiler can't look into; their answers are compared.
+
+use std::hint::black_box;
+use std::time::{Duration, Instant};
+
+mod fsm {
+    pub const DALI_RX_SAMPLE_BUF_LEN: usize = 64;
+}
+
+#[allow(dead_code)]
+mod manchester {
+    include!(env!("OXIDALI_MANCHESTER"));
+}
+
+use manchester::{BestPhaseSearch, PhaseDecode, SampleWindow, SNIFFED_BIT_LENGTHS};
+
+const SAMPLES: usize = fsm::DALI_RX_SAMPLE_BUF_LEN;
+const MAX_OUT_BITS: u8 = manchester::MANCHESTER_RX_MAX_DECODED_BITS;
+const PHASES: [i8; 5] = [-2, -1, 0, 1, 2];
+
+const CAPTURES: usize = 3_000;
+const TURNS: usize = 12;
+const ROUNDS: usize = 25;
+
+// The proved library `timed`. A reference to an array passes as a pointer.
+extern "C" {
+    fn timed_phase(
+        samples: &[u8; SAMPLES],
+        sample_count: u16,
+        max_out_bits: u8,
+        phase_ticks: i8,
+    ) -> u64;
+    fn timed_search(samples: &[u8; SAMPLES], sample_count: u16) -> u64;
+}
+
+struct Capture {
+    samples: [u8; SAMPLES],
+    count: u16,
+}
+
+/// The same number as `timed` makes of a decode.
+fn digest(decode: &PhaseDecode) -> u64 {
+    let data = u64::from_be_bytes(decode.data);
+    (data >> 32 << 32) + (u64::from(decode.bit_len) << 16) + u64::from(decode.score)
+}
+
+#[inline(never)]
+fn rust_phase(capture: &Capture, phase_ticks: i8) -> u64 {
+    let window = SampleWindow::of_capture(&capture.samples, capture.count);
+    digest(&window.decode_phase(MAX_OUT_BITS, phase_ticks))
+}
+
+#[inline(never)]
+fn rust_search(capture: &Capture) -> u64 {
+    let window = SampleWindow::of_capture(&capture.samples, capture.count);
+    BestPhaseSearch::new(SNIFFED_BIT_LENGTHS)
+        .run(&window)
+        .map_or(0, |decode| digest(&decode))
+}
+
+#[inline(never)]
+fn proved_phase(capture: &Capture, phase_ticks: i8) -> u64 {
+    unsafe { timed_phase(&capture.samples, capture.count, MAX_OUT_BITS, phase_ticks) }
+}
+
+#[inline(never)]
+fn proved_search(capture: &Capture) -> u64 {
+    unsafe { timed_search(&capture.samples, capture.count) }
+}
+
+struct Random(u64);
+
+impl Random {
+    fn below(&mut self, n: u64) -> u64 {
+        self.0 ^= self.0 << 13;
+        self.0 ^= self.0 >> 7;
+        self.0 ^= self.0 << 17;
+        self.0 % n
+    }
+}
+
+/// The wave of a frame of 8, 16 or 24 random bits: half-bits of four ticks, each run of ticks off by up to `jitter`.
+fn frame(random: &mut Random, jitter: u64) -> Capture {
+    let mut half_bits = vec![0, 1];
+    for _ in 0..8 * (1 + random.below(3)) {
+        half_bits.extend(if random.below(2) == 1 { [0, 1] } else { [1, 0] });
+    }
+    let mut ticks = Vec::new();
+    for level in half_bits {
+        let length = 4 + random.below(2 * jitter + 1) - jitter;
+        ticks.extend((0..length).map(|_| level));
+    }
+    ticks.extend([1; 24]);
+    captured(&ticks)
+}
+
+fn noise(random: &mut Random) -> Capture {
+    let ticks: Vec<u8> = (0..8 * SAMPLES).map(|_| random.below(2) as u8).collect();
+    captured(&ticks)
+}
+
+fn captured(ticks: &[u8]) -> Capture {
+    let mut samples = [0; SAMPLES];
+    let bytes = ticks.chunks_exact(8).take(SAMPLES);
+    let count = bytes.len() as u16;
+    for (sample, byte) in samples.iter_mut().zip(bytes) {
+        *sample = byte.iter().fold(0, |sum, tick| 2 * sum + tick);
+    }
+    Capture { samples, count }
+}
+
+/// The time of one pass over all captures, and the sum of the answers.
+fn timed(captures: &[Capture], call: impl Fn(&Capture) -> u64) -> (Duration, u64) {
+    let start = Instant::now();
+    let mut sum = 0u64;
+    for _ in 0..TURNS {
+        for capture in captures {
+            sum = sum.rotate_left(1) ^ call(black_box(capture));
+        }
+    }
+    (start.elapsed(), sum)
+}
+
+/// The median over the rounds of the proved side's time divided by the Rust's. Each round times both, in turn first.
+fn ratio(
+    captures: &[Capture],
+    rust: impl Fn(&Capture) -> u64,
+    proved: impl Fn(&Capture) -> u64,
+) -> f64 {
+    let mut ratios: Vec<f64> = (0..ROUNDS)
+        .map(|round| {
+            let (ours, theirs) = if round % 2 == 0 {
+                let theirs = timed(captures, &rust);
+                (timed(captures, &proved), theirs)
+            } else {
+                (timed(captures, &proved), timed(captures, &rust))
+            };
+            assert_eq!(ours.1, theirs.1, "the two sides answer differently");
+            ours.0.as_secs_f64() / theirs.0.as_secs_f64()
+        })
+        .collect();
+    ratios.sort_by(f64::total_cmp);
+    ratios[ROUNDS / 2]
+}
+
+fn all_phases(capture: &Capture, decode: impl Fn(&Capture, i8) -> u64) -> u64 {
+    PHASES.iter().fold(0, |sum: u64, phase| {
+        sum.rotate_left(7) ^ decode(capture, *phase)
+    })
+}
+
+fn main() {
+    let mut random = Random(62_386);
+    let kinds: [(&str, Vec<Capture>); 3] = [
+        (
+            "clean frames",
+            (0..CAPTURES).map(|_| frame(&mut random, 0)).collect(),
+        ),
+        (
+            "jittered frames",
+            (0..CAPTURES).map(|_| frame(&mut random, 1)).collect(),
+        ),
+        ("noise", (0..CAPTURES).map(|_| noise(&mut random)).collect()),
+    ];
+    println!("time of the proved code divided by the Rust's (median of {ROUNDS} rounds)");
+    println!("captures          decode_phase   search");
+    for (name, captures) in &kinds {
+        let phase = ratio(
+            captures,
+            |c| all_phases(c, rust_phase),
+            |c| all_phases(c, proved_phase),
+        );
+        let search = ratio(captures, rust_search, proved_search);
+        println!("{name:<17} {phase:>12.2} {search:>8.2}");
+    }
+}
