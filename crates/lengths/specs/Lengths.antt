@@ -1,4 +1,4 @@
--- Document 01, "Weights and phases": a set of preferred lengths. Lengths of 32 and more are never in one. Assumes nothing.
+-- Document 01, "Weights and phases": a set of preferred lengths. It has room for those below 32. Assumes nothing.
 use Prim.Native.Nat.{ℕ, _/_, _%_, _^_}
 use mathlib.Core.Bool.{Bool, false}
 use mathlib.Core.Path.{_≡_}

@@ -9,12 +9,11 @@ use lib.ListN.{length}
 use Rattle.laws.specs.Pick.{pick}
 use Rattle.window.specs.declared.SampleWindow.{SampleWindow}
 use Rattle.window.specs.Phase.{phaseOf}
-use Rattle.search.specs.declared.Found.the-variants.{Decode, Nothing}
-use Rattle.search.specs.declared.PhaseSearch.the-variants.{Searching}
+use Rattle.search.specs.declared.Found.the-variants.{Nothing}
 use Rattle.search.specs.declared.BestPhaseSearch.{BestPhaseSearch}
-use Rattle.search.specs.Search.{isPreferred, searchWith, newOf, done, stepped, firstOf, endedOf, stepOf}
+use Rattle.search.specs.Search.{isPreferred, searchWith, newOf, firstOf, endedOf, stepOf}
 use Rattle.search.specs.Steps.{afterSteps, StepsAreCounted, FifthIsDone, LaterStepsRepeat, FirstIsNotKept}
-use Rattle.search.proofs.Steps.{took, ended-step}
+use Rattle.search.proofs.Steps.{firstBy, took, ended-step}
 
 -- the search's own counter
 counter : (s : BestPhaseSearch) (ws : List SampleWindow) → s .step ≤ 5 → afterSteps s ws .step ≡ min (s .step + length ws) 5
@@ -47,6 +46,6 @@ pub first-is-not-kept : FirstIsNotKept
 unfolding stepOf firstOf pick
 first-is-not-kept m w = go (isPreferred m (phaseOf w 32 (pos 0)))
   where
-    go : (t : Bool) → pick t (stepped (searchWith m 1 Nothing) (done (Decode (phaseOf w 32 (pos 0))) 1)) (stepped (searchWith m 1 Nothing) Searching) .search ≡ searchWith m 1 Nothing
+    go : (t : Bool) → firstBy m w t .search ≡ searchWith m 1 Nothing
     go true = refl
     go false = refl

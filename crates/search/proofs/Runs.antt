@@ -7,21 +7,19 @@ use lib.IntN.{pos}
 use Rattle.laws.specs.Pick.{pick}
 use Rattle.window.specs.declared.SampleWindow.{SampleWindow}
 use Rattle.window.specs.Phase.{phaseOf}
-use Rattle.search.specs.declared.Found.the-variants.{Decode, Nothing}
+use Rattle.search.specs.declared.Found.the-variants.{Decode}
 use Rattle.search.specs.declared.PhaseSearch.{PhaseSearch}
 use Rattle.search.specs.declared.PhaseSearch.the-variants.{Searching, Done}
 use Rattle.search.specs.declared.BestPhaseSearch.{BestPhaseSearch}
-use Rattle.search.specs.Search.{isPreferred, acceptedOf, searchWith, done, stepped, firstOf, endedOf, scannedOf, scanPhase, stepOf, orLater, runFrom, runOf}
+use Rattle.search.specs.Search.{isPreferred, acceptedOf, firstOf, endedOf, scannedOf, scanPhase, stepOf, orLater, runFrom, runOf}
 use Rattle.search.specs.Steps.{bestOf, searchOf, RunOfNew, RunIsSteps}
-use Rattle.search.proofs.Steps.{goes, ended-step}
+use Rattle.search.proofs.Steps.{firstBy, goes, ended-step}
 
 pub run-of-new : RunOfNew
 unfolding runOf runFrom stepOf firstOf scannedOf endedOf scanPhase searchOf bestOf pick
 run-of-new m w = go (isPreferred m (phaseOf w 32 (pos 0)))
   where
-    go : (t : Bool)
-        → orLater (pick t (stepped (searchWith m 1 Nothing) (done (Decode (phaseOf w 32 (pos 0))) 1)) (stepped (searchWith m 1 Nothing) Searching) .answer)
-        (runFrom 4 (pick t (stepped (searchWith m 1 Nothing) (done (Decode (phaseOf w 32 (pos 0))) 1)) (stepped (searchWith m 1 Nothing) Searching) .search) w)
+    go : (t : Bool) → orLater (firstBy m w t .answer) (runFrom 4 (firstBy m w t .search) w)
         ≡ pick t (record { found = acceptedOf (Decode (phaseOf w 32 (pos 0))); steps = 1 }) (record { found = acceptedOf (bestOf m w); steps = 5 })
     go true = refl
     go false = refl

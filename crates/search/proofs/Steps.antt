@@ -11,11 +11,12 @@ use mir.Val.{toZ, ofZ}
 use borrow.Author.Tests.{ltb-true, ltb-false, lt-ltb, le-ltb, eq-eqb, ne-eqb}
 use Rattle.laws.specs.Pick.{pick}
 use Rattle.laws.proofs.Picked.{on-true, on-false}
+use Rattle.lengths.specs.declared.BitLengths.{BitLengths}
 use Rattle.window.specs.declared.SampleWindow.{SampleWindow}
 use Rattle.window.specs.declared.PhaseDecode.{PhaseDecode}
 use Rattle.window.specs.Phase.{phaseOf}
 use Rattle.search.specs.declared.Found.{Found}
-use Rattle.search.specs.declared.Found.the-variants.{Decode}
+use Rattle.search.specs.declared.Found.the-variants.{Decode, Nothing}
 use Rattle.search.specs.declared.SearchAnswer.{SearchAnswer}
 use Rattle.search.specs.declared.PhaseSearch.the-variants.{Searching, Done}
 use Rattle.search.specs.declared.BestPhaseSearch.{BestPhaseSearch}
@@ -42,6 +43,10 @@ scan-step s w n h = rw (on-false (ne-eqb (s .step) 0 n), on-false (le-ltb 4 (s .
 pub ended-step : (s : BestPhaseSearch) (w : SampleWindow) → 4 < s .step → stepOf s w ≡ endedOf s
 unfolding stepOf
 ended-step s w h = rw (on-false (ne-eqb (s .step) 0 (omega arith)), on-true (lt-ltb 4 (s .step) h))
+
+-- the first step of a new search, by whether its length is preferred
+abbrev pub firstBy : BitLengths → SampleWindow → Bool → Stepped
+firstBy m w t = pick t (stepped (searchWith m 1 Nothing) (done (Decode (phaseOf w 32 (pos 0))) 1)) (stepped (searchWith m 1 Nothing) Searching)
 
 -- ---- what the step after n steps leaves and answers
 pub clash : {P : Type 0} (a : SearchAnswer) → Done a ≡ Searching → P

@@ -23,26 +23,26 @@ use Rattle.search.specs.declared.Stepped.{Stepped}
 abbrev pub isPreferred : BitLengths → PhaseDecode → Bool
 isPreferred preferred d = holds preferred (d .«bit_len»)
 
--- the higher score is better, then the smaller distance from phase 0; on a full tie neither is
+-- more score wins; between equal scores the phase nearer to 0; between equal ones neither
 unfoldable pub higherOf : PhaseDecode → PhaseDecode → Bool
 higherOf candidate current =
     pick (eqb (candidate .score) (current .score))
     (ltb (natAbs (candidate .«phase_ticks»)) (natAbs (current .«phase_ticks»)))
     (ltb (current .score) (candidate .score))
 
--- before that, a preferred length is better than one that isn't
+-- but first of all a length that is wished for wins over one that is not
 unfoldable pub betterOf : PhaseDecode → PhaseDecode → BitLengths → Bool
 betterOf candidate current preferred =
     pick (Bool·beq (isPreferred preferred candidate) (isPreferred preferred current)) (higherOf candidate current) (isPreferred preferred candidate)
 
--- A length of 0 is never kept; where the candidate isn't better, the earlier one stays.
+-- What is remembered once a candidate was seen. An empty one is passed over, and one that does not win changes nothing.
 unfoldable pub keptOf : Found → PhaseDecode → BitLengths → Found
 keptOf Nothing candidate preferred = pick (eqb (candidate .«bit_len») 0) Nothing (Decode candidate)
 keptOf (Decode current) candidate preferred =
     pick (eqb (candidate .«bit_len») 0) (Decode current)
     (pick (betterOf candidate current preferred) (Decode candidate) (Decode current))
 
--- A final length under 3 is no decode.
+-- One or two bits are not worth handing out.
 unfoldable pub acceptedOf : Found → Found
 acceptedOf Nothing = Nothing
 acceptedOf (Decode d) = pick (ltb (d .«bit_len») 3) Nothing (Decode d)
@@ -61,23 +61,23 @@ done found steps = Done (record { found = acceptedOf found; steps = steps })
 abbrev pub stepped : BestPhaseSearch → PhaseSearch → Stepped
 stepped search answer = record { search = search; answer = answer }
 
--- Step one reads phase 0 and is done if that length is preferred. Its result is never kept.
+-- The first step looks at phase 0. With a wished-for length the search is over at once; in either case nothing of it is remembered.
 unfoldable pub firstOf : BestPhaseSearch → PhaseDecode → Stepped
 firstOf s d =
     let next = searchWith (s .preferred) 1 (s .best) in
     pick (isPreferred (s .preferred) d) (stepped next (done (Decode d) 1)) (stepped next Searching)
 
--- A search that has taken its five steps gives the same answer at every further one.
+-- After five steps the answer stands, however often it is asked for.
 unfoldable pub endedOf : BestPhaseSearch → Stepped
 endedOf s = stepped s (done (s .best) 5)
 
--- Each of the next four steps keeps the better decode; the last of them is done.
+-- Steps two to five look at one phase each and remember the winner; the fifth answers.
 unfoldable pub scannedOf : BestPhaseSearch → PhaseDecode → Stepped
 scannedOf s d =
     let next = searchWith (s .preferred) (s .step + 1) (keptOf (s .best) d (s .preferred)) in
     pick (ltb (s .step) 4) (stepped next Searching) (endedOf next)
 
--- the phases of the scan, in its order
+-- where they look, in this order
 unfoldable pub scanPhase : ℕ → ℤ
 scanPhase k = getD (negsuc 1 ∷ negsuc 0 ∷ pos 1 ∷ pos 2 ∷ []) k (pos 2)
 
@@ -88,12 +88,12 @@ stepOf s w =
     (scannedOf s (phaseOf w 32 (scanPhase (s .step - 1)))))
 
 -- ---- a run
--- the answer of a step that says Done, else what is found later
+-- a step's own answer, or else what comes later
 abbrev pub orLater : PhaseSearch → SearchAnswer → SearchAnswer
 orLater Searching later = later
 orLater (Done answer) later = answer
 
--- Steps are taken until one says Done, which the last of those left of five does.
+-- Step after step, up to the first answer. The fifth step of a search answers in any case, so no more are taken than are left of five.
 unfoldable pub runFrom : ℕ → BestPhaseSearch → SampleWindow → SearchAnswer
 runFrom zero s w = record { found = acceptedOf (s .best); steps = 5 }
 runFrom (suc left) s w = orLater (stepOf s w .answer) (runFrom left (stepOf s w .search) w)

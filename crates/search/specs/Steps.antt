@@ -16,23 +16,23 @@ use Rattle.search.specs.declared.BestPhaseSearch.{BestPhaseSearch}
 use Rattle.search.specs.Search.{isPreferred, keptOf, acceptedOf, searchWith, newOf, stepOf, orLater, runOf}
 
 -- ---- in one piece
--- the best of the four phases of the scan
+-- what is remembered of all four phases
 unfoldable pub bestOf : BitLengths → SampleWindow → Found
 bestOf m w =
     keptOf (keptOf (keptOf (keptOf Nothing (phaseOf w 32 (negsuc 1)) m) (phaseOf w 32 (negsuc 0)) m) (phaseOf w 32 (pos 1)) m) (phaseOf w 32 (pos 2)) m
 
--- phase 0 where its length is preferred, in one step; else the best of the scan, in five
+-- phase 0 if its length is wished for, after one step; else the winner of the four, after five
 unfoldable pub searchOf : BitLengths → SampleWindow → SearchAnswer
 searchOf m w =
     pick (isPreferred m (phaseOf w 32 (pos 0)))
     (record { found = acceptedOf (Decode (phaseOf w 32 (pos 0))); steps = 1 })
     (record { found = acceptedOf (bestOf m w); steps = 5 })
 
--- A new search, run to its end, is the search in one piece.
+-- Running a new search is the search in one piece.
 abbrev pub RunOfNew : Type 0
 RunOfNew = (m : BitLengths) (w : SampleWindow) → runOf (newOf m) w ≡ searchOf m w
 
--- `run` keeps taking steps until one says Done and hands that answer out, from any search.
+-- A run of any search is its first step's answer, or else the run of what that step left.
 abbrev pub RunIsSteps : Type 0
 RunIsSteps = (s : BestPhaseSearch) (w : SampleWindow) → runOf s w ≡ orLater (stepOf s w .answer) (runOf (stepOf s w .search) w)
 
@@ -42,23 +42,23 @@ unfoldable pub afterSteps : BestPhaseSearch → List SampleWindow → BestPhaseS
 afterSteps s [] = s
 afterSteps s (w ∷ ws) = afterSteps (stepOf s w .search) ws
 
--- The count of an answer is that of the steps taken since the search was new, and never above 5.
+-- An answer tells how often the search was stepped since it began. It tells 5 from the fifth step on.
 abbrev pub StepsAreCounted : Type 0
 StepsAreCounted =
     (m : BitLengths) (ws : List SampleWindow) (w : SampleWindow) (a : SearchAnswer)
     → stepOf (afterSteps (newOf m) ws) w .answer ≡ Done a → a .steps ≡ min (length ws + 1) 5
 
--- The fifth step says Done, and so does every later one.
+-- From the fifth step on every step answers.
 abbrev pub FifthIsDone : Type 0
 FifthIsDone =
     (m : BitLengths) (ws : List SampleWindow) (w : SampleWindow) → 4 ≤ length ws → (a : SearchAnswer) × (stepOf (afterSteps (newOf m) ws) w .answer ≡ Done a)
 
--- After the fifth, a step in any window repeats the answer and leaves the search.
+-- A sixth step, and any after it, neither looks at its window nor changes the search.
 abbrev pub LaterStepsRepeat : Type 0
 LaterStepsRepeat =
     (m : BitLengths) (ws : List SampleWindow) (v w : SampleWindow) → 5 ≤ length ws
     → (stepOf (afterSteps (newOf m) ws) v ≡ stepOf (afterSteps (newOf m) ws) w) × (stepOf (afterSteps (newOf m) ws) w .search ≡ afterSteps (newOf m) ws)
 
--- The first step's result is never kept: whether it said Done or not, the scan begins with nothing.
+-- However the first step ended, the second begins with nothing remembered.
 abbrev pub FirstIsNotKept : Type 0
 FirstIsNotKept = (m : BitLengths) (w : SampleWindow) → stepOf (newOf m) w .search ≡ searchWith m 1 Nothing

@@ -48,7 +48,7 @@ pub struct Stepped {
     pub answer: PhaseSearch,
 }
 
-// The phases of the scan, in its order.
+// Where the scan looks, step by step.
 fn scan_phase(index: u8) -> i8
     ensures { λ r. ⌜ r ≡ scanPhase index ⌝ }
 {
@@ -110,7 +110,7 @@ impl BestPhaseSearch {
         self.after_scan(candidate)
     }
 
-    // Step one is done if the length at phase 0 is preferred. Its decode is never kept.
+    // What the first step makes of phase 0. The search remembers nothing of it.
     fn after_first(self, first: PhaseDecode) -> Stepped
         ensures { λ r. ⌜ r ≡ firstOf self first ⌝ }
     {
@@ -156,7 +156,7 @@ impl BestPhaseSearch {
         search.ended()
     }
 
-    // A search at its end: the same answer at every further step.
+    // A search at its end answers, and stays as it is.
     fn ended(self) -> Stepped
         ensures { λ r. ⌜ r ≡ endedOf self ⌝ }
     {
@@ -183,7 +183,7 @@ impl BestPhaseSearch {
     }
 }
 
-// The decode that is kept of the best so far and a candidate. A length of 0 is never kept.
+// What is remembered of the best so far and a candidate. An empty candidate doesn't count.
 fn kept(best: Found, candidate: PhaseDecode, preferred: BitLengths) -> Found
     ensures { λ r. ⌜ r ≡ keptOf best candidate preferred ⌝ }
 {

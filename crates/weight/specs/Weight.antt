@@ -4,19 +4,19 @@ use lib.IntN.{ℤ, pos, negsuc, negℤ, _+ℤ_, _-ℤ_, _*ℤ_}
 use lib.Dec.{eqb}
 use Rattle.laws.specs.Pick.{pick}
 
--- plus the weight where the bit of the byte is set, minus the weight where it is clear
+-- a tick speaks for its weight where it is high, and against it where it is low; bit 0 is the last tick
 unfoldable pub bitWeight : ℕ → ℕ → ℤ → ℤ
 bitWeight byte bit weight = pick (eqb (byte / 2 ^ bit % 2) 1) weight (negℤ weight)
 
--- a half of four bits, first tick on top, weighs them 1, 2, 2, 1
+-- four ticks together: those in the middle weigh double
 unfoldable pub halfWeight : ℕ → ℤ
 halfWeight half = bitWeight half 3 (pos 1) +ℤ bitWeight half 2 (pos 2) +ℤ bitWeight half 1 (pos 2) +ℤ bitWeight half 0 (pos 1)
 
--- a number below zero becomes its magnitude plus one
+-- without its sign; one more for a number below zero, which makes it odd
 unfoldable pub folded : ℤ → ℕ
 folded (pos n) = n
 folded (negsuc n) = suc n + 1
 
--- twice the difference of the halves, the first less the second, and then folded
+-- how far the first half is above the second, doubled: odd for a rising bit, even for a falling or a flat one
 unfoldable pub weightOf : ℕ → ℕ
 weightOf byte = folded (pos 2 *ℤ (halfWeight (byte / 16) -ℤ halfWeight (byte % 16)))

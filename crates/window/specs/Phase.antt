@@ -12,11 +12,11 @@ use Rattle.window.specs.declared.PhaseDecode.{PhaseDecode}
 use Rattle.window.specs.Window.{sampleBits, peekAt}
 
 -- ---- one bit
--- The peek at a bit's position, moved by the phase.
+-- A phase moves every look at the window by as many ticks.
 abbrev pub peekOf : SampleWindow → ℤ → ℕ → ℕ
 peekOf w phase p = peekAt w (pos p +ℤ phase)
 
--- The early peek begins one tick before the centre one, the late peek one tick after it.
+-- Each bit is weighed three times: where it is expected, a tick earlier and a tick later.
 abbrev pub centre : SampleWindow → ℤ → ℕ → ℕ
 centre w phase p = weightOf (peekOf w phase p)
 
@@ -26,11 +26,12 @@ early w phase p = weightOf (peekOf w phase (p - 1))
 abbrev pub late : SampleWindow → ℤ → ℕ → ℕ
 late w phase p = weightOf (peekOf w phase (p + 1))
 
--- The largest of the three weights is the bit's.
+-- The best of the three is what it weighs.
 unfoldable pub weightAround : SampleWindow → ℤ → ℕ → ℕ
 weightAround w phase p = max (max (centre w phase p) (early w phase p)) (late w phase p)
 
--- The strides are 8, 7 and 9: the largest weight wins, centre on a tie, then early.
+-- The next bit is expected 8 ticks on, or 7 or 9 where the early or the late look weighed more. Of looks that weigh the same the centre counts
+-- before the early one, and both before the late one.
 unfoldable pub strideOf : ℕ → ℕ → ℕ → ℕ
 strideOf c e l = pick (ltb (max c e) l) 9 (pick (ltb c e) 7 8)
 
@@ -48,8 +49,9 @@ abbrev pub after : ℕ → PhaseBits → PhaseBits
 after weight held = held
 after weight (bits weights) = bits (weight ∷ weights)
 
--- From a position on, with `len` bits read before. It goes on while the position + 1 is below the sample bits and the length isn't over the
--- maximum. The late peek alone decides the stop: 0xFF ends the phase, 0x00 makes it fail. (The first number bounds the bits still to read.)
+-- The bits from a position on, after `len` others. There is one more if the tick behind the position is still a sample and if no more than
+-- `most` were read before it. Even then the late look, and no other, can end the phase: eight high ticks are the idle line, and eight low
+-- ones a held line, of which nothing is told. (`left` bounds the bits still to come.)
 unfoldable pub bitsFrom : ℕ → SampleWindow → ℕ → ℤ → ℕ → ℕ → PhaseBits
 bitsFrom zero w most phase p len = bits []
 bitsFrom (suc left) w most phase p len =
@@ -61,36 +63,36 @@ bitsFrom (suc left) w most phase p len =
     (bits []))
     (bits [])
 
--- A phase starts at position 1. The 512 ticks of a window have room for 73 bits, since none takes fewer than 7.
+-- The first bit is expected at tick 1. The 512 ticks of a window have room for 73 bits of 7 ticks or more.
 unfoldable pub bitsOf : SampleWindow → ℕ → ℤ → PhaseBits
 bitsOf w most phase = bitsFrom 73 w most phase 1 0
 
 -- ---- what is told of them
--- A length above 1 drops by one: the start bit isn't counted, but a lone start bit reports 1.
+-- The start bit goes uncounted, but where it is the only one.
 unfoldable pub lengthOf : List ℕ → ℕ
 lengthOf weights = pick (ltb 1 (length weights)) (length weights - 1) (length weights)
 
--- The score is the sum of the weights.
+-- All weights together.
 unfoldable pub scoreOf : List ℕ → ℕ
 scoreOf [] = 0
 scoreOf (weight ∷ weights) = weight + scoreOf weights
 
--- A data bit is 1 where its weight is odd. The start bit, the first, isn't stored, nor are bits past the 64th.
+-- An odd weight is a 1, an even one a 0. Kept are the bits behind the start bit, and of those the first 64.
 abbrev pub dataBit : List ℕ → ℕ → ℕ
 dataBit weights j = getD weights (j + 1) 0 % 2
 
 abbrev pub storedBits : List ℕ → ℕ
 storedBits weights = min (length weights - 1) 64
 
--- Byte i holds the bits from 8 i on, eight or as many as were stored, so that a part-filled byte holds its bits at the bottom.
+-- Eight bits make a byte. The last may have fewer, and is then the number that those few make.
 abbrev pub dataByte : List ℕ → ℕ → ℕ
 dataByte weights i = packed 2 (min 8 (storedBits weights - i * 8)) (λ (j : ℕ). dataBit weights (i * 8 + j))
 
--- The eight data bytes are one number, the first byte on top.
+-- The bytes side by side in one number, the first at its top.
 unfoldable pub dataOf : List ℕ → ℕ
 dataOf weights = packed 256 8 (dataByte weights)
 
--- A phase that fails has length 0 and score 0.
+-- Of a held line only the phase is told.
 unfoldable pub decodeOf : ℤ → PhaseBits → PhaseDecode
 decodeOf phase held = record { «bit_len» = 0; «phase_ticks» = phase; score = 0; «data» = 0 }
 decodeOf phase (bits weights) =

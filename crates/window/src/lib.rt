@@ -175,7 +175,7 @@ impl SampleWindow {
         (((first * 256 + next) >> (8 - shifted % 8)) % 256) as u8
     }
 
-    // The best of the centre, early and late peeks. The stop is the late one's alone.
+    // A bit's weight and how far on the next one lies. Whether the phase stops here is told by the late peek, and by no other.
     fn weighted_peek_around(self, bitpos: u16, bias: u16) -> PeekAround
         requires { ⌜ (1 ≤ bitpos) × (bitpos ≤ 600) × (bias ≤ 255) ⌝ }
         ensures { λ r. ⌜ r ≡ aroundOf self (subℕ bias 128) bitpos ⌝ }
@@ -281,7 +281,7 @@ fn larger(a: u8, b: u8) -> u8
     if a < b { b } else { a }
 }
 
-// How far the next bit lies: the largest weight wins, the centre on a tie, then the early one.
+// How far on the next bit lies. Of equal weights the centre's counts first, then the early one's.
 fn stride(centre: u8, early: u8, late: u8) -> u16
     ensures { λ r. ⌜ r ≡ strideOf centre early late ⌝ }
 {
@@ -335,7 +335,7 @@ fn stored(bit_len: u8) -> u8
     }
 }
 
-// n stored bits by bytes: whole bytes from the top, and a part-filled one with its bits at the bottom.
+// n stored bits by bytes, the first byte on top. The last byte may have fewer than eight, in its low bits.
 fn placed(bits: u64, n: u8) -> u64
     requires { ⌜ (bits < 2 ^ n) × (n ≤ 64) ⌝ }
     ensures { λ r. ⌜ r ≡ placedOf bits n ⌝ }
