@@ -30,19 +30,19 @@ higherOf candidate current =
     (ltb (natAbs (candidate .«phase_ticks»)) (natAbs (current .«phase_ticks»)))
     (ltb (current .score) (candidate .score))
 
--- but first of all a length that is wished for wins over one that is not
+-- but before both, a preferred length wins over any other
 unfoldable pub betterOf : PhaseDecode → PhaseDecode → BitLengths → Bool
 betterOf candidate current preferred =
     pick (Bool·beq (isPreferred preferred candidate) (isPreferred preferred current)) (higherOf candidate current) (isPreferred preferred candidate)
 
--- What is remembered once a candidate was seen. An empty one is passed over, and one that does not win changes nothing.
+-- What is kept once a candidate was seen. An empty one is passed over, and one that does not win changes nothing.
 unfoldable pub keptOf : Found → PhaseDecode → BitLengths → Found
 keptOf Nothing candidate preferred = pick (eqb (candidate .«bit_len») 0) Nothing (Decode candidate)
 keptOf (Decode current) candidate preferred =
     pick (eqb (candidate .«bit_len») 0) (Decode current)
     (pick (betterOf candidate current preferred) (Decode candidate) (Decode current))
 
--- One or two bits are not worth handing out.
+-- Fewer than three bits are not handed out as a decode.
 unfoldable pub acceptedOf : Found → Found
 acceptedOf Nothing = Nothing
 acceptedOf (Decode d) = pick (ltb (d .«bit_len») 3) Nothing (Decode d)
@@ -61,23 +61,23 @@ done found steps = Done (record { found = acceptedOf found; steps = steps })
 abbrev pub stepped : BestPhaseSearch → PhaseSearch → Stepped
 stepped search answer = record { search = search; answer = answer }
 
--- The first step looks at phase 0. With a wished-for length the search is over at once; in either case nothing of it is remembered.
+-- The first step reads phase 0 alone, and a preferred length ends the search there. Its decode is kept in neither case.
 unfoldable pub firstOf : BestPhaseSearch → PhaseDecode → Stepped
 firstOf s d =
     let next = searchWith (s .preferred) 1 (s .best) in
     pick (isPreferred (s .preferred) d) (stepped next (done (Decode d) 1)) (stepped next Searching)
 
--- After five steps the answer stands, however often it is asked for.
+-- Past the fifth step the answer stands, however often it is asked for.
 unfoldable pub endedOf : BestPhaseSearch → Stepped
 endedOf s = stepped s (done (s .best) 5)
 
--- Steps two to five look at one phase each and remember the winner; the fifth answers.
+-- Steps two to five are the scan: each reads one phase and keeps the winner, and the fifth says Done.
 unfoldable pub scannedOf : BestPhaseSearch → PhaseDecode → Stepped
 scannedOf s d =
     let next = searchWith (s .preferred) (s .step + 1) (keptOf (s .best) d (s .preferred)) in
     pick (ltb (s .step) 4) (stepped next Searching) (endedOf next)
 
--- where they look, in this order
+-- the phases of the scan: -2, -1, 1 and 2 (`negsuc n` is -(n + 1))
 unfoldable pub scanPhase : ℕ → ℤ
 scanPhase k = getD (negsuc 1 ∷ negsuc 0 ∷ pos 1 ∷ pos 2 ∷ []) k (pos 2)
 

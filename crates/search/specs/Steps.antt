@@ -16,12 +16,12 @@ use Rattle.search.specs.declared.BestPhaseSearch.{BestPhaseSearch}
 use Rattle.search.specs.Search.{isPreferred, keptOf, acceptedOf, searchWith, newOf, stepOf, orLater, runOf}
 
 -- ---- in one piece
--- what is remembered of all four phases
+-- what the scan keeps of its four phases
 unfoldable pub bestOf : BitLengths → SampleWindow → Found
 bestOf m w =
     keptOf (keptOf (keptOf (keptOf Nothing (phaseOf w 32 (negsuc 1)) m) (phaseOf w 32 (negsuc 0)) m) (phaseOf w 32 (pos 1)) m) (phaseOf w 32 (pos 2)) m
 
--- phase 0 if its length is wished for, after one step; else the winner of the four, after five
+-- phase 0 if its length is preferred, after one step; else what the scan keeps, after five
 unfoldable pub searchOf : BitLengths → SampleWindow → SearchAnswer
 searchOf m w =
     pick (isPreferred m (phaseOf w 32 (pos 0)))
@@ -48,7 +48,7 @@ StepsAreCounted =
     (m : BitLengths) (ws : List SampleWindow) (w : SampleWindow) (a : SearchAnswer)
     → stepOf (afterSteps (newOf m) ws) w .answer ≡ Done a → a .steps ≡ min (length ws + 1) 5
 
--- From the fifth step on every step answers.
+-- From the fifth on every step says Done.
 abbrev pub FifthIsDone : Type 0
 FifthIsDone =
     (m : BitLengths) (ws : List SampleWindow) (w : SampleWindow) → 4 ≤ length ws → (a : SearchAnswer) × (stepOf (afterSteps (newOf m) ws) w .answer ≡ Done a)
@@ -59,6 +59,6 @@ LaterStepsRepeat =
     (m : BitLengths) (ws : List SampleWindow) (v w : SampleWindow) → 5 ≤ length ws
     → (stepOf (afterSteps (newOf m) ws) v ≡ stepOf (afterSteps (newOf m) ws) w) × (stepOf (afterSteps (newOf m) ws) w .search ≡ afterSteps (newOf m) ws)
 
--- However the first step ended, the second begins with nothing remembered.
+-- However the first step ended, the scan begins with nothing kept.
 abbrev pub FirstIsNotKept : Type 0
 FirstIsNotKept = (m : BitLengths) (w : SampleWindow) → stepOf (newOf m) w .search ≡ searchWith m 1 Nothing

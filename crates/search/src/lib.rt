@@ -110,7 +110,7 @@ impl BestPhaseSearch {
         self.after_scan(candidate)
     }
 
-    // What the first step makes of phase 0. The search remembers nothing of it.
+    // What the first step makes of phase 0. The search keeps nothing of it.
     fn after_first(self, first: PhaseDecode) -> Stepped
         ensures { λ r. ⌜ r ≡ firstOf self first ⌝ }
     {
@@ -183,7 +183,7 @@ impl BestPhaseSearch {
     }
 }
 
-// What is remembered of the best so far and a candidate. An empty candidate doesn't count.
+// What is kept of the best so far and a candidate. An empty candidate doesn't count.
 fn kept(best: Found, candidate: PhaseDecode, preferred: BitLengths) -> Found
     ensures { λ r. ⌜ r ≡ keptOf best candidate preferred ⌝ }
 {

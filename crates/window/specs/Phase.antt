@@ -12,11 +12,11 @@ use Rattle.window.specs.declared.PhaseDecode.{PhaseDecode}
 use Rattle.window.specs.Window.{sampleBits, peekAt}
 
 -- ---- one bit
--- A phase moves every look at the window by as many ticks.
+-- A phase moves every peek by as many ticks.
 abbrev pub peekOf : SampleWindow → ℤ → ℕ → ℕ
 peekOf w phase p = peekAt w (pos p +ℤ phase)
 
--- Each bit is weighed three times: where it is expected, a tick earlier and a tick later.
+-- Each bit is weighed three times: where it is expected, the centre, and a tick earlier and later.
 abbrev pub centre : SampleWindow → ℤ → ℕ → ℕ
 centre w phase p = weightOf (peekOf w phase p)
 
@@ -30,8 +30,8 @@ late w phase p = weightOf (peekOf w phase (p + 1))
 unfoldable pub weightAround : SampleWindow → ℤ → ℕ → ℕ
 weightAround w phase p = max (max (centre w phase p) (early w phase p)) (late w phase p)
 
--- The next bit is expected 8 ticks on, or 7 or 9 where the early or the late look weighed more. Of looks that weigh the same the centre counts
--- before the early one, and both before the late one.
+-- The stride to the next bit is 8 ticks, or 7 or 9 where the early or the late peek weighed more. Of peeks that weigh the same the centre
+-- counts before the early one, and both before the late one.
 unfoldable pub strideOf : ℕ → ℕ → ℕ → ℕ
 strideOf c e l = pick (ltb (max c e) l) 9 (pick (ltb c e) 7 8)
 
@@ -50,8 +50,8 @@ after weight held = held
 after weight (bits weights) = bits (weight ∷ weights)
 
 -- The bits from a position on, after `len` others. There is one more if the tick behind the position is still a sample and if no more than
--- `most` were read before it. Even then the late look, and no other, can end the phase: eight high ticks are the idle line, and eight low
--- ones a held line, of which nothing is told. (`left` bounds the bits still to come.)
+-- `most` were read before it. Even then the late peek, and no other, can stop the phase: eight high ticks are the idle line, and eight low
+-- ones a held line, on which the phase fails. (`left` bounds the bits still to come.)
 unfoldable pub bitsFrom : ℕ → SampleWindow → ℕ → ℤ → ℕ → ℕ → PhaseBits
 bitsFrom zero w most phase p len = bits []
 bitsFrom (suc left) w most phase p len =
@@ -92,7 +92,7 @@ dataByte weights i = packed 2 (min 8 (storedBits weights - i * 8)) (λ (j : ℕ)
 unfoldable pub dataOf : List ℕ → ℕ
 dataOf weights = packed 256 8 (dataByte weights)
 
--- Of a held line only the phase is told.
+-- A phase that failed tells of nothing but itself.
 unfoldable pub decodeOf : ℤ → PhaseBits → PhaseDecode
 decodeOf phase held = record { «bit_len» = 0; «phase_ticks» = phase; score = 0; «data» = 0 }
 decodeOf phase (bits weights) =
