@@ -16,7 +16,7 @@ packed-same base (suc k) f g e = rw (packed-same base k f g (λ i h. e i (omega 
 -- the digits of the first part stand above those of the second
 pub packed-add : (base a b : ℕ) (f : ℕ → ℕ) → packed base (a + b) f ≡ packed base a f * base ^ b + packed base b (λ i. f (a + i))
 unfolding packed
-packed-add base a zero f = rw (add-zero, pow-zero, mul-one) (sym (add-zero (packed base a f)))
+packed-add base a zero f = rw (add-zero a, pow-zero, mul-one) (sym (add-zero (packed base a f)))
 packed-add base a (suc b) f =
     rw (add-suc, packed-add base a b f, add-mul, pow-suc, mul-assoc)
     (add-assoc (packed base a f * (base ^ b * base)) (packed base b (λ i. f (a + i)) * base) (f (a + b)))
