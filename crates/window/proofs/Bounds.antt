@@ -1,4 +1,4 @@
--- The bounds in the definitions never cut anything off. Assumes nothing.
+-- The bounds in the definitions never cut anything off, and empty windows read alike. Assumes nothing.
 use mathlib.Core.Path.{_≡_, refl, sym, _∙_}
 use Prim.Native.Nat.{ℕ, zero, suc, _+_, _*_, _≤_}
 use native.Mathlib.Omega.{arith}
@@ -6,8 +6,8 @@ use native.Mathlib.Nat.{suc-add}
 use lib.IntN.{ℤ}
 use Rattle.window.specs.declared.SampleWindow.{SampleWindow}
 use Rattle.window.specs.Window.{windowOf, emptyWindow}
-use Rattle.window.specs.Phase.{centre, early, late, strideAround, bitsFrom, bitsOf}
-use Rattle.window.specs.Bounds.{AllSampleBits, SeventyThreeBits}
+use Rattle.window.specs.Phase.{centre, early, late, strideAround, bitsFrom, bitsOf, phaseOf}
+use Rattle.window.specs.Bounds.{AllSampleBits, SeventyThreeBits, EmptyWindows}
 use Rattle.window.proofs.Turns.{stride-bounds, at-end}
 
 pub all-sample-bits : AllSampleBits
@@ -26,3 +26,8 @@ module _ (w : SampleWindow) (most : ℕ) (phase : ℤ) (more : ℕ) where
 pub seventy-three-bits : SeventyThreeBits
 unfolding bitsOf
 seventy-three-bits w most phase more = enough w most phase more 73 1 0 (omega arith) (omega arith)
+
+pub empty-windows : EmptyWindows
+unfolding phaseOf bitsOf windowOf emptyWindow
+empty-windows samples most phase =
+    rw (at-end emptyWindow most phase 73 1 0 (omega arith), at-end (windowOf samples 0) most phase 73 1 0 (omega arith))

@@ -1,11 +1,12 @@
--- The two bounds that the definitions of "Window" and "One phase" name never cut anything off, as statements. Assumes nothing.
+-- What holds at the edges of "Window" and "One phase", as statements: the two bounds in their definitions never cut anything off, and the two
+-- empty windows read alike. Assumes nothing.
 use Prim.Native.Nat.{ℕ, _+_}
 use mathlib.Core.List.{List}
 use mathlib.Core.Path.{_≡_}
 use lib.IntN.{ℤ}
 use Rattle.window.specs.declared.SampleWindow.{SampleWindow}
 use Rattle.window.specs.Window.{windowOf, emptyWindow, sampleBits}
-use Rattle.window.specs.Phase.{bitsFrom, bitsOf}
+use Rattle.window.specs.Phase.{bitsFrom, bitsOf, phaseOf}
 
 -- Every window that can be made has all its bits among the 512.
 abbrev pub AllSampleBits : Type 0
@@ -16,3 +17,7 @@ AllSampleBits =
 -- A phase never reads 73 bits and has more to read: any larger bound reads the same.
 abbrev pub SeventyThreeBits : Type 0
 SeventyThreeBits = (w : SampleWindow) (most : ℕ) (phase : ℤ) (more : ℕ) → bitsFrom (73 + more) w most phase 1 0 ≡ bitsOf w most phase
+
+-- The constant window is not the window of an empty capture, which has the pad, but no decode tells them apart.
+abbrev pub EmptyWindows : Type 0
+EmptyWindows = (samples : List ℕ) (most : ℕ) (phase : ℤ) → phaseOf emptyWindow most phase ≡ phaseOf (windowOf samples 0) most phase
