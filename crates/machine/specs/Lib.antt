@@ -1,0 +1,9 @@
+pub mod Runs
+pub mod Idle
+pub mod Sampling
+pub mod Sending
+pub mod Collision
+pub mod BecomingIdle
+pub mod Starting
+pub mod Acting
+pub mod Groups
