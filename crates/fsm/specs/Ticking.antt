@@ -1,0 +1,27 @@
+-- Document 01, "Machine": a tick. Assumes nothing.
+use mathlib.Core.Bool.{Bool}
+use Rattle.machine.specs.Runs.{heardOf}
+use Rattle.machine.specs.Idle.{idleTick}
+use Rattle.machine.specs.Sending.{txTick}
+use Rattle.machine.specs.Collision.{collisionTick}
+use Rattle.machine.specs.declared.BusState.{BusState}
+use Rattle.machine.specs.declared.BusState.the-variants as bus
+use Rattle.machine.specs.declared.Core.{Core}
+use Rattle.fsm.specs.Station.{withCore}
+use Rattle.fsm.specs.Receiving.{storedRx}
+use Rattle.fsm.specs.declared.DaliBitbangPhy.{DaliBitbangPhy}
+use Rattle.fsm.specs.declared.Ticked.{Ticked}
+
+-- by state, once both run lengths are updated (`c`)
+unfoldable pub actOf : BusState → DaliBitbangPhy → Core → Bool → DaliBitbangPhy
+actOf bus.Idle s c high = withCore s (idleTick c high)
+actOf bus.Rx s c high = storedRx s c high
+actOf bus.Tx s c high = withCore s (txTick c (s .«tx_hb») high)
+actOf bus.CollisionTx s c high = withCore s (collisionTick c high)
+
+unfoldable pub tickOf : DaliBitbangPhy → Bool → DaliBitbangPhy
+tickOf s high = actOf (s .core .bus .«bus_state») s (heardOf (s .core) high) high
+
+-- the station, and the level that it then drives: the one before, where the tick sets none
+unfoldable pub ticked : DaliBitbangPhy → Bool → Ticked
+ticked s high = record { station = tickOf s high; «driven_high» = tickOf s high .core .bus .«driven_high» }
