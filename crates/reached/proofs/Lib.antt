@@ -1,0 +1,4 @@
+pub mod Cases
+pub mod Cores
+pub mod Holding
+pub mod Stations

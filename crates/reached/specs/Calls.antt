@@ -1,0 +1,37 @@
+-- The calls that change a station, and the stations that they lead to from a new one. Assumes nothing.
+use mathlib.Core.Bool.{Bool}
+use Rattle.halfbits.specs.declared.HalfBitBuffer.{HalfBitBuffer}
+use Rattle.machine.specs.declared.CollisionPolicy.{CollisionPolicy}
+use Rattle.fsm.specs.declared.DaliBitbangPhy.{DaliBitbangPhy}
+use Rattle.fsm.specs.Station.{newStation}
+use Rattle.fsm.specs.Ticking.{tickOf}
+use Rattle.fsm.specs.Starting.{startTx, startAnswer}
+use Rattle.fsm.specs.Polling.{polled}
+use Rattle.fsm.specs.Calls.{withPolicy, tookIdle, acknowledged, tookRx}
+
+-- Each call that changes a station; the others only tell of it.
+pub data Call : Type 0 where
+  tick : Bool → Call
+  start-tx : HalfBitBuffer → Call
+  start-answer : HalfBitBuffer → Call
+  poll : Call
+  take-idle : Call
+  take-rx : Call
+  acknowledge : Call
+  policy : CollisionPolicy → Call
+
+-- the station that it leaves
+unfoldable pub after : Call → DaliBitbangPhy → DaliBitbangPhy
+after (tick high) s = tickOf s high
+after (start-tx hb) s = startTx s hb .station
+after (start-answer hb) s = startAnswer s hb .station
+after poll s = polled s .station
+after take-idle s = tookIdle s .station
+after take-rx s = tookRx (s .core .told .«rx_state») s .station
+after acknowledge s = acknowledged (s .core .told .«rx_state») s
+after (policy p) s = withPolicy s p
+
+-- any calls in any order
+pub data Reached : DaliBitbangPhy → Type 0 where
+  new : Reached newStation
+  called : {s : DaliBitbangPhy} (c : Call) → Reached s → Reached (after c s)
