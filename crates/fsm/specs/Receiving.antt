@@ -19,8 +19,8 @@ filled bytes r high = pick (eighth r) (set bytes (min (r .«rx_pos») 63) (shift
 -- count are what earlier captures left. A part-filled byte is written nowhere.
 unfoldable pub finishedRx : DaliBitbangPhy → Core → Rx → List ℕ → DaliBitbangPhy
 finishedRx s c r bytes =
-    stationOf (finished c r) (set bytes (r .«rx_pos») 255) (s .«tx_hb»)
-    (lastRxOf (set bytes (r .«rx_pos») 255) (finished c r .rx .«rx_pos») (finished c r .rx .«rx_pre_idle»))
+    let whole = set bytes (r .«rx_pos») 255 in
+    stationOf (finished c r) whole (s .«tx_hb») (lastRxOf whole (finished c r .rx .«rx_pos») (finished c r .rx .«rx_pre_idle»))
 
 -- An Rx tick of a station whose core has heard the level.
 unfoldable pub storedRx : DaliBitbangPhy → Core → Bool → DaliBitbangPhy

@@ -396,10 +396,10 @@ impl DaliBitbangPhy {
         let rx_data = self.rx_data;
         let tx_hb = self.tx_hb;
         let last_rx = self.last_rx;
-        let core = heard.act(tx_hb, bus_is_high);
-        let bus = core.bus;
+        let acted = heard.act(tx_hb, bus_is_high);
+        let bus = acted.bus;
         let station = DaliBitbangPhy {
-            core,
+            core: acted,
             rx_data,
             tx_hb,
             last_rx,
