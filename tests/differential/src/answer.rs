@@ -1,38 +1,50 @@
 //! The protocol answered over the unchanged Rust.
 
-use crate::command::{push_hex_field, push_number, push_number_field, Capture, Command, Rank};
+use crate::command::{
+    push_byte_string_field, push_hex_field, push_number, push_number_field, Capture, Command, Rank,
+};
+use crate::fsm::{
+    restart_gate_for, settle_ticks_on_wire, BusState, RxCompletedEvent, RxState, TxPollResult,
+};
 use crate::manchester::{
     is_better_decode, sample_weight, BestPhaseSearch, BitLengths, PhaseDecode, PhaseSearch,
     SampleWindow, DECODED_BYTES,
 };
+use crate::station::{Refusal, Station};
 
 const BAD_LINE: &[u8] = b"?";
 const MOST_STEPS: u8 = 5;
 
-/// What stays from one line to the next. The station and the bench line join here when they are ported.
+/// What stays from one line to the next. The bench line joins here when it is ported.
 pub struct Session {
     search: CountedSearch,
+    station: Station,
 }
 
 impl Session {
     pub fn new() -> Self {
         Self {
             search: CountedSearch::new(0),
+            station: Station::new(),
         }
     }
 
-    /// Adds the answer to one line, and its LF; gives the command's number, and none for a bad line.
-    pub fn answer(&mut self, line: &[u8], out: &mut Vec<u8>) -> Option<usize> {
+    pub fn station(&self) -> &Station {
+        &self.station
+    }
+
+    /// Adds the answer to one line, and its LF; gives the command, and none for a bad line.
+    pub fn answer(&mut self, line: &[u8], out: &mut Vec<u8>) -> Option<Command> {
         let command = Command::read(line);
         match &command {
             Some(command) => self.answer_command(command, out),
             None => out.extend_from_slice(BAD_LINE),
         }
         out.push(b'\n');
-        command.map(|command| command.number())
+        command
     }
 
-    fn answer_command(&mut self, command: &Command, out: &mut Vec<u8>) {
+    pub fn answer_command(&mut self, command: &Command, out: &mut Vec<u8>) {
         match command {
             Command::Weight { sample } => push_number(out, i32::from(sample_weight(*sample))),
             Command::Phase {
@@ -49,7 +61,7 @@ impl Session {
             Command::Steps { mask, k, capture } => push_steps(out, *mask, *k, &window(capture)),
             Command::BsNew { mask } => {
                 self.search = CountedSearch::new(*mask);
-                out.extend_from_slice(b"ok");
+                push_ok(out);
             }
             Command::BsStep { capture } => match self.search.step(&window(capture)) {
                 PhaseSearch::Searching => out.extend_from_slice(b"searching"),
@@ -71,6 +83,44 @@ impl Session {
             Command::Lengths { bytes, n } => {
                 push_number(out, i32::from(BitLengths::of(bytes).contains(*n)));
             }
+            Command::New => {
+                self.station = Station::new();
+                push_ok(out);
+            }
+            Command::Policy { policy } => {
+                self.station.set_policy(*policy);
+                push_ok(out);
+            }
+            Command::Tick { high } => {
+                out.push(b'd');
+                push_number_field(out, i32::from(self.station.tick(*high)));
+            }
+            Command::Ticks { levels } => {
+                let driven = levels.answered(|high| self.station.tick(high));
+                out.push(b'd');
+                push_byte_string_field(out, driven.bytes());
+            }
+            Command::Start { start, half_bits } => {
+                push_start(out, self.station.start(*start, half_bits));
+            }
+            Command::Poll => out.extend_from_slice(poll_word(self.station.poll())),
+            Command::TakeIdle => push_number(out, i32::from(self.station.take_idle())),
+            Command::TakeRx => match self.station.take_rx() {
+                None => out.extend_from_slice(b"none"),
+                Some(event) => {
+                    out.extend_from_slice(b"event");
+                    push_event(out, &event);
+                }
+            },
+            Command::Ack => {
+                self.station.acknowledge();
+                push_ok(out);
+            }
+            Command::State => push_state(out, &self.station),
+            Command::Settle { ticks, lead } => {
+                push_number(out, i32::from(settle_ticks_on_wire(*ticks, *lead)));
+            }
+            Command::Gate { ticks } => push_number(out, i32::from(restart_gate_for(*ticks))),
         }
     }
 }
@@ -128,6 +178,10 @@ fn ranked(rank: &Rank) -> PhaseDecode {
     }
 }
 
+fn push_ok(out: &mut Vec<u8>) {
+    out.extend_from_slice(b"ok");
+}
+
 fn push_decode(out: &mut Vec<u8>, decode: &PhaseDecode) {
     push_number_field(out, i32::from(decode.bit_len));
     push_number_field(out, i32::from(decode.phase_ticks));
@@ -157,5 +211,62 @@ fn push_steps(out: &mut Vec<u8>, mask: u32, k: u8, window: &SampleWindow) {
             PhaseSearch::Done(None) => out.extend_from_slice(b" nothing"),
             PhaseSearch::Done(Some(decode)) => push_decode(out, &decode),
         }
+    }
+}
+
+fn push_start(out: &mut Vec<u8>, refusal: Option<Refusal>) {
+    match refusal {
+        None => push_ok(out),
+        Some(number) => {
+            out.extend_from_slice(b"refused");
+            push_number_field(out, number as i32);
+        }
+    }
+}
+
+fn push_state(out: &mut Vec<u8>, station: &Station) {
+    out.extend_from_slice(b"state ");
+    out.extend_from_slice(bus_word(station.bus_state()));
+    out.push(b' ');
+    out.extend_from_slice(rx_word(station.rx_state()));
+    push_number_field(out, i32::from(station.is_debouncing()));
+    push_number_field(out, i32::from(station.idle_ticks()));
+    push_number_field(out, i32::from(station.low_run_ticks()));
+    push_number_field(out, i32::from(station.tx_pre_idle_ticks()));
+    push_number_field(out, i32::from(station.rx_pre_idle_ticks()));
+    push_number_field(out, i32::from(station.is_busy()));
+    push_number_field(out, i32::from(station.drives_high()));
+    push_event(out, station.last_event());
+}
+
+fn push_event(out: &mut Vec<u8>, event: &RxCompletedEvent) {
+    push_number_field(out, i32::from(event.sample_count));
+    push_number_field(out, i32::from(event.pre_idle_ticks));
+    push_hex_field(out, &event.samples);
+}
+
+fn poll_word(result: TxPollResult) -> &'static [u8] {
+    match result {
+        TxPollResult::Ok => b"ok",
+        TxPollResult::Collision => b"collision",
+        TxPollResult::Transmitting => b"transmitting",
+        TxPollResult::Yielded => b"yielded",
+    }
+}
+
+pub fn bus_word(state: BusState) -> &'static [u8] {
+    match state {
+        BusState::Idle => b"idle",
+        BusState::Rx => b"rx",
+        BusState::Tx => b"tx",
+        BusState::CollisionTx => b"collision",
+    }
+}
+
+fn rx_word(state: RxState) -> &'static [u8] {
+    match state {
+        RxState::Empty => b"empty",
+        RxState::Receiving => b"receiving",
+        RxState::Completed => b"completed",
     }
 }

@@ -147,7 +147,19 @@ fn pull_low(words: &mut [u64; TICKS / 64], from: usize, to: usize) {
     }
 }
 
-fn wave_capture(random: &mut Random) -> Capture {
+/// The runs of a frame's wave in ticks, low first and then by turns: exact, or bent.
+pub fn any_wave(random: &mut Random) -> Vec<u8> {
+    bent_frame_runs(random).ticks
+}
+
+/// The runs of a frame's exact wave, low first and then by turns.
+pub fn exact_wave(bits: &[bool]) -> Vec<u8> {
+    let mut runs = Runs::new();
+    push_frame(&mut runs, bits, bit_of_eight_ticks, &mut Random::new(0));
+    runs.ticks
+}
+
+fn bent_frame_runs(random: &mut Random) -> Runs {
     let mut runs = frame_runs(random);
     match random.below(6) {
         0 => one_run_off_by_one(&mut runs, random),
@@ -155,6 +167,11 @@ fn wave_capture(random: &mut Random) -> Capture {
         2 => one_run_near_a_stop(&mut runs, random),
         _ => {}
     }
+    runs
+}
+
+fn wave_capture(random: &mut Random) -> Capture {
+    let mut runs = bent_frame_runs(random);
     let before = if random.one_in(5) {
         shifted_start(&mut runs, random)
     } else {

@@ -1,7 +1,12 @@
 //! The protocol's commands as values: read from a line, and written as one.
 
+use crate::fsm::CollisionPolicy;
+use crate::levels::Levels;
+use crate::station::{HalfBits, Start};
+
 pub const LONGEST_LINE: usize = 2047;
 pub const SAMPLES: usize = 64;
+pub const MOST_TICKS: usize = 4096;
 
 #[derive(Clone, PartialEq, Eq)]
 pub struct Capture {
@@ -17,7 +22,7 @@ pub struct Rank {
     pub score: u16,
 }
 
-// The commands of the station, of the reading and of the bench line join here when they are ported.
+// The commands of the reading and of the bench line join here when they are ported.
 #[derive(Clone, PartialEq, Eq)]
 pub enum Command {
     Weight {
@@ -55,11 +60,65 @@ pub enum Command {
         bytes: Vec<u8>,
         n: u8,
     },
+    New,
+    Policy {
+        policy: CollisionPolicy,
+    },
+    Tick {
+        high: bool,
+    },
+    Ticks {
+        levels: Levels,
+    },
+    Start {
+        start: Start,
+        half_bits: HalfBits,
+    },
+    Poll,
+    TakeIdle,
+    TakeRx,
+    Ack,
+    State,
+    Settle {
+        ticks: u16,
+        lead: u8,
+    },
+    Gate {
+        ticks: u8,
+    },
 }
 
-pub const NAMES: [&str; 9] = [
-    "weight", "phase", "search", "steps", "bsnew", "bsstep", "bsrun", "better", "lengths",
+pub const NAMES: [&str; 22] = [
+    "weight",
+    "phase",
+    "search",
+    "steps",
+    "bsnew",
+    "bsstep",
+    "bsrun",
+    "better",
+    "lengths",
+    "new",
+    "policy",
+    "tick",
+    "ticks",
+    "start_tx",
+    "start_answer",
+    "poll",
+    "take_idle",
+    "take_rx",
+    "ack",
+    "state",
+    "settle",
+    "gate",
 ];
+
+/// The names of the station's commands are those from this one on.
+const FIRST_OF_STATION: usize = 9;
+
+pub fn is_of_station(number: usize) -> bool {
+    number >= FIRST_OF_STATION
+}
 
 impl Command {
     /// The place in `NAMES`.
@@ -74,6 +133,34 @@ impl Command {
             Command::BsRun { .. } => 6,
             Command::Better { .. } => 7,
             Command::Lengths { .. } => 8,
+            Command::New => 9,
+            Command::Policy { .. } => 10,
+            Command::Tick { .. } => 11,
+            Command::Ticks { .. } => 12,
+            Command::Start { start, .. } => match start {
+                Start::Tx => 13,
+                Start::Answer => 14,
+            },
+            Command::Poll => 15,
+            Command::TakeIdle => 16,
+            Command::TakeRx => 17,
+            Command::Ack => 18,
+            Command::State => 19,
+            Command::Settle { .. } => 20,
+            Command::Gate { .. } => 21,
+        }
+    }
+
+    pub fn name(&self) -> &'static str {
+        NAMES[self.number()]
+    }
+
+    /// The ticks that the command makes.
+    pub fn ticks(&self) -> usize {
+        match self {
+            Command::Tick { .. } => 1,
+            Command::Ticks { levels } => levels.ticks(),
+            _ => 0,
         }
     }
 
@@ -119,6 +206,36 @@ impl Command {
                 bytes: fields.byte_string()?,
                 n: fields.u8()?,
             },
+            b"new" => Command::New,
+            b"policy" => Command::Policy {
+                policy: fields.policy()?,
+            },
+            b"tick" => Command::Tick {
+                high: fields.level()?,
+            },
+            b"ticks" => Command::Ticks {
+                levels: fields.levels()?,
+            },
+            b"start_tx" => Command::Start {
+                start: Start::Tx,
+                half_bits: fields.half_bits()?,
+            },
+            b"start_answer" => Command::Start {
+                start: Start::Answer,
+                half_bits: fields.half_bits()?,
+            },
+            b"poll" => Command::Poll,
+            b"take_idle" => Command::TakeIdle,
+            b"take_rx" => Command::TakeRx,
+            b"ack" => Command::Ack,
+            b"state" => Command::State,
+            b"settle" => Command::Settle {
+                ticks: fields.u16()?,
+                lead: fields.u8()?,
+            },
+            b"gate" => Command::Gate {
+                ticks: fields.u8()?,
+            },
             _ => return None,
         };
         match fields.rest {
@@ -128,7 +245,7 @@ impl Command {
     }
 
     pub fn write(&self, out: &mut Vec<u8>) {
-        out.extend_from_slice(NAMES[self.number()].as_bytes());
+        out.extend_from_slice(self.name().as_bytes());
         match self {
             Command::Weight { sample } => push_hex_field(out, &[*sample]),
             Command::Phase {
@@ -161,13 +278,33 @@ impl Command {
                 push_rank(out, current);
             }
             Command::Lengths { bytes, n } => {
-                if bytes.is_empty() {
-                    out.extend_from_slice(b" -");
-                } else {
-                    push_hex_field(out, bytes);
-                }
+                push_byte_string_field(out, bytes);
                 push_number_field(out, i32::from(*n));
             }
+            Command::Policy { policy } => {
+                out.push(b' ');
+                out.extend_from_slice(policy_word(*policy));
+            }
+            Command::Tick { high } => push_number_field(out, i32::from(*high)),
+            Command::Ticks { levels } => {
+                push_byte_string_field(out, levels.bytes());
+                push_number_field(out, levels.ticks() as i32);
+            }
+            Command::Start { half_bits, .. } => {
+                push_number_field(out, i32::from(half_bits.len));
+                push_hex_field(out, &half_bits.data);
+            }
+            Command::Settle { ticks, lead } => {
+                push_number_field(out, i32::from(*ticks));
+                push_number_field(out, i32::from(*lead));
+            }
+            Command::Gate { ticks } => push_number_field(out, i32::from(*ticks)),
+            Command::New
+            | Command::Poll
+            | Command::TakeIdle
+            | Command::TakeRx
+            | Command::Ack
+            | Command::State => {}
         }
     }
 
@@ -175,6 +312,14 @@ impl Command {
         let mut line = Vec::with_capacity(160);
         self.write(&mut line);
         line
+    }
+}
+
+fn policy_word(policy: CollisionPolicy) -> &'static [u8] {
+    match policy {
+        CollisionPolicy::Auto => b"auto",
+        CollisionPolicy::Off => b"off",
+        CollisionPolicy::On => b"on",
     }
 }
 
@@ -257,6 +402,36 @@ impl<'a> Fields<'a> {
         }
         digits.chunks_exact(2).map(hex_byte).collect()
     }
+
+    fn policy(&mut self) -> Option<CollisionPolicy> {
+        Some(match self.next()? {
+            b"auto" => CollisionPolicy::Auto,
+            b"off" => CollisionPolicy::Off,
+            b"on" => CollisionPolicy::On,
+            _ => return None,
+        })
+    }
+
+    fn level(&mut self) -> Option<bool> {
+        match self.next()? {
+            b"0" => Some(false),
+            b"1" => Some(true),
+            _ => None,
+        }
+    }
+
+    fn levels(&mut self) -> Option<Levels> {
+        let bytes = self.byte_string()?;
+        let ticks = decimal(self.next()?, MOST_TICKS as u32)?;
+        Levels::of_bytes(bytes, ticks as usize)
+    }
+
+    fn half_bits(&mut self) -> Option<HalfBits> {
+        Some(HalfBits {
+            len: self.u8()?,
+            data: self.bytes()?,
+        })
+    }
 }
 
 fn decimal(digits: &[u8], max: u32) -> Option<u32> {
@@ -325,6 +500,15 @@ pub fn push_number(out: &mut Vec<u8>, value: i32) {
 pub fn push_hex_field(out: &mut Vec<u8>, bytes: &[u8]) {
     out.push(b' ');
     push_hex(out, bytes);
+}
+
+/// Bytes of any number, none of them too.
+pub fn push_byte_string_field(out: &mut Vec<u8>, bytes: &[u8]) {
+    if bytes.is_empty() {
+        out.extend_from_slice(b" -");
+    } else {
+        push_hex_field(out, bytes);
+    }
 }
 
 pub fn push_number_field(out: &mut Vec<u8>, value: i32) {

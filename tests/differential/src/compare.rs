@@ -6,7 +6,7 @@ use std::sync::Arc;
 use std::thread::{self, JoinHandle};
 
 use crate::answer::Session;
-use crate::command::NAMES;
+use crate::command::{is_of_station, Command, NAMES};
 use crate::generate::{Generator, Kind};
 use crate::shrink;
 
@@ -66,7 +66,7 @@ fn next_batch(generator: &mut Generator, left: &mut usize, size: usize) -> Optio
     for _ in 0..lines {
         let from = script.len();
         generator.push_line(&mut script);
-        tally.count(session.answer(&script[from..], &mut answers));
+        tally.count(session.answer(&script[from..], &mut answers).as_ref());
         script.push(b'\n');
     }
     Some(Batch {
@@ -277,25 +277,47 @@ fn shell_word(word: &str) -> String {
     }
 }
 
-/// Lines compared so far, by the command that they say; bad lines come last.
+/// Lines compared so far, by the command that they say, with bad lines last; and the ticks that they make.
 #[derive(Default)]
 struct Tally {
     counts: [usize; NAMES.len() + 1],
+    ticks: usize,
 }
 
 impl Tally {
-    fn count(&mut self, command: Option<usize>) {
-        self.counts[command.unwrap_or(NAMES.len())] += 1;
+    fn count(&mut self, command: Option<&Command>) {
+        self.counts[command.map_or(NAMES.len(), Command::number)] += 1;
+        self.ticks += command.map_or(0, Command::ticks);
     }
 
     fn add(&mut self, other: &Tally) {
         for (count, more) in self.counts.iter_mut().zip(other.counts) {
             *count += more;
         }
+        self.ticks += other.ticks;
     }
 
     fn lines(&self) -> usize {
         self.counts.iter().sum()
+    }
+
+    fn bad_lines(&self) -> usize {
+        self.counts[NAMES.len()]
+    }
+
+    fn named(&self, wanted: &str) -> usize {
+        let commands = NAMES.iter().zip(self.counts);
+        commands
+            .filter(|(name, _)| **name == wanted)
+            .map(|(_, count)| count)
+            .sum()
+    }
+
+    fn of_station(&self) -> usize {
+        (0..NAMES.len())
+            .filter(|number| is_of_station(*number))
+            .map(|number| self.counts[number])
+            .sum()
     }
 
     fn text(&self) -> String {
@@ -305,9 +327,13 @@ impl Tally {
                 text.push_str(&format!("{name} {count}, "));
             }
         }
-        let decode_phase = self.counts[1];
-        text.push_str(&format!("bad {}), ", self.counts[NAMES.len()]));
-        text.push_str(&format!("{decode_phase} decode_phase answers among them"));
+        text.push_str(&format!(
+            "bad {}), {} decode_phase answers, {} station commands and {} ticks among them",
+            self.bad_lines(),
+            self.named("phase"),
+            self.of_station(),
+            self.ticks
+        ));
         text
     }
 }

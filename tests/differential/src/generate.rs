@@ -3,16 +3,23 @@
 use std::collections::VecDeque;
 
 use crate::captures::any_capture;
-use crate::command::{Command, Rank, LONGEST_LINE};
+use crate::command::{
+    push_byte_string_field, push_number_field, Command, Rank, LONGEST_LINE, MOST_TICKS,
+};
 use crate::random::Random;
+use crate::station_lines::{any_gate, any_settle, Pace, StationLines};
 
 const BAD_LINE_IN: usize = 100;
 const SNIFFED: u32 = 1 << 8 | 1 << 16 | 1 << 24;
 
-/// What a script holds: all commands and some bad lines, or one kind of command alone.
+/// What a script holds: a mix of commands and some bad lines, or one kind of command alone.
 #[derive(Clone, Copy, PartialEq, Eq)]
 pub enum Kind {
     Everything,
+    Decoders,
+    Station,
+    /// The station's commands, with most of the ticks in long lines.
+    StationLong,
     Weight,
     Phase,
     Search,
@@ -20,12 +27,19 @@ pub enum Kind {
     KeptSearch,
     Better,
     Lengths,
+    Settle,
+    Gate,
 }
 
 impl Kind {
-    /// The three commands of the kept search make sense together alone, so each names them all.
+    /// The three commands of the kept search make sense together alone, so each names them all; so do
+    /// the commands that a station's state is changed or shown by.
     pub fn named(name: &str) -> Option<Self> {
         Some(match name {
+            "decoders" => Kind::Decoders,
+            "station" | "new" | "policy" | "tick" | "ticks" | "start_tx" | "start_answer"
+            | "poll" | "take_idle" | "take_rx" | "ack" | "state" => Kind::Station,
+            "station-long" => Kind::StationLong,
             "weight" => Kind::Weight,
             "phase" => Kind::Phase,
             "search" => Kind::Search,
@@ -33,8 +47,17 @@ impl Kind {
             "bsnew" | "bsstep" | "bsrun" => Kind::KeptSearch,
             "better" => Kind::Better,
             "lengths" => Kind::Lengths,
+            "settle" => Kind::Settle,
+            "gate" => Kind::Gate,
             _ => return None,
         })
+    }
+
+    fn has_bad_lines(self) -> bool {
+        matches!(
+            self,
+            Kind::Everything | Kind::Decoders | Kind::Station | Kind::StationLong
+        )
     }
 }
 
@@ -42,7 +65,10 @@ pub struct Generator {
     random: Random,
     kind: Kind,
     /// The rest of a sequence on the kept search.
-    queued: VecDeque<Command>,
+    kept_search: VecDeque<Command>,
+    station: StationLines,
+    /// A good command, after a bad line that was made of it: so no sequence loses one of its commands.
+    held_back: Option<Command>,
 }
 
 impl Generator {
@@ -50,30 +76,44 @@ impl Generator {
         Self {
             random: Random::new(seed),
             kind,
-            queued: VecDeque::new(),
+            kept_search: VecDeque::new(),
+            station: StationLines::new(match kind {
+                Kind::StationLong => Pace::Long,
+                _ => Pace::Usual,
+            }),
+            held_back: None,
         }
     }
 
     /// Adds the next line, without an LF.
     pub fn push_line(&mut self, out: &mut Vec<u8>) {
-        if self.kind == Kind::Everything && self.random.one_in(BAD_LINE_IN) {
-            let good = self.next_command().line();
-            out.extend_from_slice(&spoiled(&good, &mut self.random));
+        let command = match self.held_back.take() {
+            Some(command) => command,
+            None => self.next_of(self.kind),
+        };
+        if self.kind.has_bad_lines() && self.random.one_in(BAD_LINE_IN) {
+            out.extend_from_slice(&spoiled(&command.line(), &mut self.random));
+            self.held_back = Some(command);
         } else {
-            self.next_command().write(out);
+            command.write(out);
         }
     }
 
-    fn next_command(&mut self) -> Command {
-        if let Some(command) = self.queued.pop_front() {
-            return command;
-        }
-        let kind = match self.kind {
-            Kind::Everything => self.any_kind(),
-            kind => kind,
-        };
+    fn next_of(&mut self, kind: Kind) -> Command {
         let random = &mut self.random;
         match kind {
+            Kind::Everything => {
+                let half = random.pick(&[Kind::Decoders, Kind::Station]);
+                self.next_of(half)
+            }
+            Kind::Decoders => match self.kept_search.pop_front() {
+                Some(command) => command,
+                None => {
+                    let decoder = self.any_decoder();
+                    self.next_of(decoder)
+                }
+            },
+            Kind::Station | Kind::StationLong => self.station.next(random),
             Kind::Weight => Command::Weight {
                 sample: random.byte(),
             },
@@ -88,8 +128,13 @@ impl Generator {
             },
             Kind::Better => any_better(random),
             Kind::Lengths => any_lengths(random),
-            Kind::KeptSearch => self.kept_search_sequence(),
-            Kind::Phase | Kind::Everything => Command::Phase {
+            Kind::Settle => any_settle(random),
+            Kind::Gate => any_gate(random),
+            Kind::KeptSearch => match self.kept_search.pop_front() {
+                Some(command) => command,
+                None => self.kept_search_sequence(),
+            },
+            Kind::Phase => Command::Phase {
                 max: any_maximum(random),
                 phase: any_phase(random),
                 capture: any_capture(random),
@@ -97,7 +142,7 @@ impl Generator {
         }
     }
 
-    fn any_kind(&mut self) -> Kind {
+    fn any_decoder(&mut self) -> Kind {
         match self.random.below(40) {
             0 => Kind::Weight,
             1..=7 => Kind::Search,
@@ -123,10 +168,10 @@ impl Generator {
         };
         for _ in 0..random.between(0, 8) {
             let capture = window(random);
-            self.queued.push_back(Command::BsStep { capture });
+            self.kept_search.push_back(Command::BsStep { capture });
             if random.one_in(4) {
                 let capture = window(random);
-                self.queued.push_back(Command::BsRun { capture });
+                self.kept_search.push_back(Command::BsRun { capture });
             }
         }
         let capture = window(random);
@@ -135,7 +180,7 @@ impl Generator {
             return Command::BsRun { capture };
         }
         if random.one_in(3) {
-            self.queued.push_front(Command::BsRun { capture });
+            self.kept_search.push_front(Command::BsRun { capture });
         }
         Command::BsNew {
             mask: any_mask(random),
@@ -274,19 +319,27 @@ fn any_lengths(random: &mut Random) -> Command {
 
 /// A good line made bad in one of the ways that a line can be bad.
 pub fn spoiled(line: &[u8], random: &mut Random) -> Vec<u8> {
-    let way = random.below(SPOILED_WAYS);
-    spoiled_in_way(line, way, random)
+    loop {
+        let way = random.below(SPOILED_WAYS);
+        let spoiled = spoiled_in_way(line, way, random);
+        if Command::read(&spoiled).is_none() {
+            return spoiled;
+        }
+    }
 }
 
-pub const SPOILED_WAYS: usize = 22;
+pub const SPOILED_WAYS: usize = 24;
 
+/// Some ways leave some lines good, as the one that takes the operands away does where there are none. No way makes a line that
+/// begins with a word of the protocol that isn't answered yet.
 pub fn spoiled_in_way(line: &[u8], way: usize, random: &mut Random) -> Vec<u8> {
     let mut fields: Vec<Vec<u8>> = line
         .split(|byte| *byte == b' ')
         .map(<[u8]>::to_vec)
         .collect();
     let last = fields.len() - 1;
-    let one = random.between(1, last as i32) as usize;
+    // One of the operands; the word itself where there are none.
+    let one = 1.min(last) + random.below(last.max(1));
     match way {
         0 => fields[0] = unknown_word(random),
         1 => drop(fields.remove(one)),
@@ -320,21 +373,70 @@ pub fn spoiled_in_way(line: &[u8], way: usize, random: &mut Random) -> Vec<u8> {
             fields[last][at] = random.pick(b"gGxA/:@`\0\x7f\xff");
         }
         20 => fields.truncate(1),
+        21 => fields[one].make_ascii_uppercase(),
+        22 => return ticks_that_do_not_fit(random),
         _ => return any_line(random),
     }
     fields.join(&b' ')
 }
 
 fn unknown_word(random: &mut Random) -> Vec<u8> {
-    let words: [&[u8]; 8] = [
-        b"weigh", b"weights", b"phases", b"searc", b"bsne", b"bs", b"length", b"nosuch",
+    let words: [&[u8]; 20] = [
+        b"weigh",
+        b"weights",
+        b"phases",
+        b"searc",
+        b"bsne",
+        b"bs",
+        b"length",
+        b"nosuch",
+        b"news",
+        b"polic",
+        b"tic",
+        b"tickss",
+        b"start",
+        b"start_",
+        b"start_txx",
+        b"polls",
+        b"take",
+        b"acks",
+        b"stat",
+        b"gat",
     ];
     random.pick(&words).to_vec()
 }
 
+/// More ticks than a line may have, or other than the bytes are for.
+fn ticks_that_do_not_fit(random: &mut Random) -> Vec<u8> {
+    let ticks = match random.below(3) {
+        0 => MOST_TICKS + random.between(1, 8) as usize,
+        1 => random.below(MOST_TICKS + 1),
+        _ => random.below(40),
+    };
+    let fitting = ticks.div_ceil(8);
+    let bytes = match random.below(4) {
+        _ if ticks > MOST_TICKS => fitting,
+        0 => fitting + 1,
+        1 => fitting + random.between(2, 20) as usize,
+        2 if fitting > 0 => fitting - 1,
+        3 if fitting > 0 => 0,
+        _ => fitting + 1,
+    };
+    ticks_line(&vec![random.byte(); bytes], ticks)
+}
+
+/// A line that says so many ticks, whether or not the bytes are for that many.
+pub fn ticks_line(bytes: &[u8], ticks: usize) -> Vec<u8> {
+    let mut line = b"ticks".to_vec();
+    push_byte_string_field(&mut line, bytes);
+    push_number_field(&mut line, ticks as i32);
+    line
+}
+
 fn out_of_range(random: &mut Random) -> Vec<u8> {
-    let numbers: [&[u8]; 9] = [
+    let numbers: [&[u8]; 10] = [
         b"256",
+        b"4097",
         b"65536",
         b"65792",
         b"-129",
@@ -351,15 +453,19 @@ fn over_long(line: &[u8], random: &mut Random) -> Vec<u8> {
     let size = LONGEST_LINE + random.pick(&[1, 1, 2, 3, 100, LONGEST_LINE, 3 * LONGEST_LINE]);
     let mut long = line.to_vec();
     if random.one_in(2) {
-        long = b"lengths ".to_vec();
+        long = random
+            .pick(&[&b"lengths "[..], b"ticks ", b"state "])
+            .to_vec();
     }
     long.resize(size, random.pick(b"0 8"));
     long
 }
 
+/// Any bytes; the first is none that a word begins with.
 fn any_line(random: &mut Random) -> Vec<u8> {
     (0..random.between(1, 12))
         .map(|_| random.byte())
         .filter(|byte| *byte != b'\n')
+        .skip_while(u8::is_ascii_lowercase)
         .collect()
 }

@@ -5,11 +5,17 @@ mod answer;
 mod captures;
 mod command;
 mod compare;
+mod coverage;
 mod generate;
+mod levels;
 mod original;
+mod others;
 mod random;
 mod shrink;
+mod station;
+mod station_lines;
 mod stored;
+mod stored_station;
 
 // The unchanged files name each other from the crate's root.
 use original::{fsm, halfbits, manchester, phy, platform};
@@ -22,9 +28,12 @@ use generate::{Generator, Kind};
 
 const USAGE: &str = "usage:
   differential answer                                 answers the protocol on standard input
-  differential generate --seed S --commands N [--only COMMAND]
-  differential compare --calls PROGRAM --seed S --commands N [--only COMMAND] [--batch B]
-  differential store --to FOLDER                      writes FOLDER/stdin and FOLDER/stdout";
+  differential generate --seed S --commands N [--only KIND]
+  differential coverage --seed S --commands N [--only KIND]
+                                                      counts the moments that a script brings a station to
+  differential compare --calls PROGRAM --seed S --commands N [--only KIND] [--batch B]
+  differential store --to FOLDER                      writes FOLDER/stdin and FOLDER/stdout
+KIND is decoders, station, station-long or a command's name.";
 
 const USUAL_BATCH: usize = 50_000;
 const DIFFERENT: u8 = 1;
@@ -54,6 +63,12 @@ fn run(words: &[String]) -> Result<bool, String> {
         "generate" => {
             options.allow(&["--seed", "--commands", "--only"])?;
             quiet_on_closed_pipe(generate(&options)?)
+        }
+        "coverage" => {
+            options.allow(&["--seed", "--commands", "--only"])?;
+            let mut generator = Generator::new(options.seed()?, options.kind()?);
+            let table = coverage::table(&mut generator, options.commands()?);
+            quiet_on_closed_pipe(io::stdout().lock().write_all(table.as_bytes()))
         }
         "compare" => {
             options.allow(&["--calls", "--seed", "--commands", "--only", "--batch"])?;
@@ -169,7 +184,7 @@ impl<'a> Options<'a> {
     fn kind(&self) -> Result<Kind, String> {
         match self.find("--only") {
             None => Ok(Kind::Everything),
-            Some(name) => Kind::named(name).ok_or(format!("--only {name}: no such command")),
+            Some(name) => Kind::named(name).ok_or(format!("--only {name}: no such kind")),
         }
     }
 

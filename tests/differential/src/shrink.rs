@@ -1,12 +1,17 @@
 //! The smallest script that still shows a difference: fewer lines first, then simpler fields.
 
-use crate::command::{Capture, Command, SAMPLES};
+use std::ops::Range;
+
+use crate::command::{is_of_station, Capture, Command, MOST_TICKS, SAMPLES};
+use crate::levels::{Levels, HIGH, LOW};
 
 type Script = Vec<Vec<u8>>;
 
 /// Enough for any command, and an end if the program's answers change from run to run.
 const MOST_TRIALS: usize = 20_000;
 const SIMPLE_SAMPLES: [u8; 4] = [0x00, 0xFF, 0x0F, 0xF0];
+/// No stretch below this part of a line's ticks is tried alone, so that long lines don't use up the trials.
+const FINEST_PART: usize = 256;
 
 /// None if the script shows no difference when it is run again.
 pub fn smallest(script: Script, differs: &mut dyn FnMut(&[Vec<u8>]) -> bool) -> Option<Script> {
@@ -16,18 +21,33 @@ pub fn smallest(script: Script, differs: &mut dyn FnMut(&[Vec<u8>]) -> bool) -> 
         trials: 0,
     };
     shrinker.drop_lines();
+    shrinker.join_ticks();
     shrinker.simplify_lines();
     shrinker.drop_lines();
     Some(shrinker.script)
 }
 
-/// The last line alone, or with the lines that the kept search comes from, or all of them.
+/// The last line alone, or with the lines that the kept search or the station comes from, or all of them.
 fn starting_script(script: Script, differs: &mut dyn FnMut(&[Vec<u8>]) -> bool) -> Option<Script> {
     let last = script.last()?.clone();
     let kept_search = kept_search_lines(&script);
-    [vec![last], kept_search, script]
+    let new = script.iter().rposition(|line| line == b"new");
+    let since_new = station_lines(&script[new.unwrap_or(0)..]);
+    let station = station_lines(&script);
+    [vec![last], kept_search, since_new, station, script]
         .into_iter()
         .find(|script| differs(script))
+}
+
+/// The station's commands and the last line.
+fn station_lines(script: &[Vec<u8>]) -> Script {
+    let is_kept =
+        |line: &[u8]| Command::read(line).is_some_and(|command| is_of_station(command.number()));
+    let lines = script.iter().enumerate();
+    lines
+        .filter(|(number, line)| number + 1 == script.len() || is_kept(line))
+        .map(|(_, line)| line.clone())
+        .collect()
 }
 
 fn kept_search_lines(script: &Script) -> Script {
@@ -82,10 +102,13 @@ impl Shrinker<'_> {
             let before = self.script.clone();
             for at in 0..self.script.len() {
                 match Command::read(&self.script[at]) {
+                    Some(Command::Ticks { .. }) => self.simplify_ticks(at),
                     Some(_) => self.simplify_command(at),
                     None => self.shorten_bad_line(at),
                 }
             }
+            self.drop_lines();
+            self.join_ticks();
             if self.script == before {
                 return;
             }
@@ -93,6 +116,9 @@ impl Shrinker<'_> {
     }
 
     fn take_line(&mut self, at: usize, line: Vec<u8>) -> bool {
+        if line == self.script[at] {
+            return false;
+        }
         let mut script = self.script.clone();
         script[at] = line;
         self.take(script)
@@ -124,9 +150,76 @@ impl Shrinker<'_> {
         }
     }
 
+    /// One line for two that follow each other, where both make ticks.
+    fn join_ticks(&mut self) {
+        let mut at = 0;
+        while at + 1 < self.script.len() {
+            let [first, second] = [at, at + 1].map(|at| levels_of(&self.script[at]));
+            let joined = match (first, second) {
+                (Some(first), Some(second)) if first.ticks() + second.ticks() <= MOST_TICKS => {
+                    let levels = first.iter().chain(second.iter()).collect();
+                    let mut script = self.script.clone();
+                    script.remove(at + 1);
+                    script[at] = Command::Ticks { levels }.line();
+                    self.take(script)
+                }
+                _ => false,
+            };
+            if !joined {
+                at += 1;
+            }
+        }
+    }
+
+    fn simplify_ticks(&mut self, at: usize) {
+        self.take_levels(at, |levels| levels.iter().collect());
+        self.by_stretches(at, |levels, stretch| {
+            let ticks = levels.iter().enumerate();
+            ticks
+                .filter(|(tick, _)| !stretch.contains(tick))
+                .map(|(_, high)| high)
+                .collect()
+        });
+        self.by_stretches(at, |levels, stretch| flattened(levels, stretch, HIGH));
+        self.by_stretches(at, |levels, stretch| flattened(levels, stretch, LOW));
+        if let Some(levels) = levels_of(&self.script[at]) {
+            if levels.ticks() == 1 {
+                let high = levels.is_high(0);
+                self.take_line(at, Command::Tick { high }.line());
+            }
+        }
+    }
+
+    /// Tries a change of the line's levels on its stretches of ticks, from all of it down to the smallest.
+    fn by_stretches(&mut self, at: usize, change: fn(&Levels, &Range<usize>) -> Levels) {
+        let ticks = |script: &Script| levels_of(&script[at]).map_or(0, |levels| levels.ticks());
+        let mut size = ticks(&self.script);
+        while size > 0 && size >= ticks(&self.script) / FINEST_PART {
+            let mut from = 0;
+            while from < ticks(&self.script) {
+                let before = ticks(&self.script);
+                let stretch = from..from + size;
+                self.take_levels(at, |levels| change(levels, &stretch));
+                // What comes after ticks that were dropped is in their place now.
+                if ticks(&self.script) == before {
+                    from += size;
+                }
+            }
+            size /= 2;
+        }
+    }
+
+    fn take_levels(&mut self, at: usize, change: impl FnOnce(&Levels) -> Levels) -> bool {
+        self.take_change(at, |command| {
+            if let Command::Ticks { levels } = command {
+                *levels = change(levels);
+            }
+        })
+    }
+
     fn simplify_command(&mut self, at: usize) {
         self.fewer_samples(at);
-        self.simpler_samples(at);
+        self.simpler_bytes(at);
         for number in 0..MOST_NUMBERS {
             self.smaller_number(at, number);
         }
@@ -168,16 +261,17 @@ impl Shrinker<'_> {
         }
     }
 
-    fn simpler_samples(&mut self, at: usize) {
+    /// Simpler samples, or half-bits.
+    fn simpler_bytes(&mut self, at: usize) {
         for place in 0..SAMPLES {
             for simple in SIMPLE_SAMPLES {
-                let now = self.sample(at, place);
+                let now = self.byte(at, place);
                 if now == Some(simple) {
                     break;
                 }
                 let taken = self.take_change(at, |command| {
-                    if let Some(capture) = capture_of(command) {
-                        capture.samples[place] = simple;
+                    if let Some(byte) = bytes_of(command).get_mut(place) {
+                        *byte = simple;
                     }
                 });
                 if taken {
@@ -187,9 +281,9 @@ impl Shrinker<'_> {
         }
     }
 
-    fn sample(&self, at: usize, place: usize) -> Option<u8> {
+    fn byte(&self, at: usize, place: usize) -> Option<u8> {
         let mut command = Command::read(&self.script[at])?;
-        capture_of(&mut command).map(|capture| capture.samples[place])
+        bytes_of(&mut command).get(place).copied()
     }
 
     fn smaller_number(&mut self, at: usize, number: usize) {
@@ -243,6 +337,53 @@ fn capture_of(command: &mut Command) -> Option<&mut Capture> {
     }
 }
 
+fn bytes_of(command: &mut Command) -> &mut [u8] {
+    match command {
+        Command::Start { half_bits, .. } => &mut half_bits.data,
+        command => match capture_of(command) {
+            Some(capture) => &mut capture.samples,
+            None => &mut [],
+        },
+    }
+}
+
+/// The levels with one level throughout the stretch, if that makes them simpler.
+fn flattened(levels: &Levels, stretch: &Range<usize>, level: bool) -> Levels {
+    let ticks = levels.iter().enumerate();
+    let flat: Levels = ticks
+        .map(
+            |(tick, high)| {
+                if stretch.contains(&tick) {
+                    level
+                } else {
+                    high
+                }
+            },
+        )
+        .collect();
+    if changes_and_lows(&flat) < changes_and_lows(levels) {
+        flat
+    } else {
+        levels.clone()
+    }
+}
+
+fn changes_and_lows(levels: &Levels) -> (usize, usize) {
+    let changes = levels.iter().zip(levels.iter().skip(1));
+    (
+        changes.filter(|(before, after)| before != after).count(),
+        levels.iter().filter(|high| *high == LOW).count(),
+    )
+}
+
+fn levels_of(line: &[u8]) -> Option<Levels> {
+    match Command::read(line)? {
+        Command::Tick { high } => Some([high].into_iter().collect()),
+        Command::Ticks { levels } => Some(levels),
+        _ => None,
+    }
+}
+
 fn mask_of(command: &mut Command) -> Option<&mut u32> {
     match command {
         Command::Search { mask, .. }
@@ -280,6 +421,13 @@ fn change_number(command: &mut Command, number: usize, make: fn(i32) -> i32) {
         Command::Steps { k, .. } if number == 0 => on_u8(k),
         Command::Lengths { n, .. } if number == 0 => on_u8(n),
         Command::Weight { sample } if number == 0 => on_u8(sample),
+        Command::Start { half_bits, .. } if number == 0 => on_u8(&mut half_bits.len),
+        Command::Settle { ticks, lead } => match number {
+            0 => on_u16(ticks),
+            1 => on_u8(lead),
+            _ => {}
+        },
+        Command::Gate { ticks } if number == 0 => on_u8(ticks),
         Command::Better {
             candidate, current, ..
         } => {

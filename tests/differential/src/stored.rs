@@ -5,11 +5,14 @@ use std::ops::Range;
 use crate::answer::Session;
 use crate::captures::{any_capture, bits_of, fast_capture, frame_capture, samples_capture};
 use crate::command::{Capture, Command, Rank, LONGEST_LINE};
-use crate::generate::{spoiled_in_way, Generator, Kind, SPOILED_WAYS};
+use crate::generate::{spoiled_in_way, ticks_line, Generator, Kind, SPOILED_WAYS};
 use crate::random::Random;
+use crate::stored_station;
 
 const SEED: u64 = 62386;
-const LINES: usize = 3500;
+/// The seeded part's lines.
+const OF_DECODERS: usize = 900;
+const OF_STATION: usize = 800;
 const SNIFFED: u32 = 1 << 8 | 1 << 16 | 1 << 24;
 const ONLY_8: u32 = 1 << 8;
 
@@ -18,19 +21,26 @@ const ONLY_8: u32 = 1 << 8;
 pub fn script() -> Vec<u8> {
     let mut lines = Vec::new();
     bench_rows(&mut lines);
+    stored_station::bench_rows(&mut lines);
     findings(&mut lines);
+    stored_station::findings(&mut lines);
     edges(&mut lines);
+    stored_station::edges(&mut lines);
+    bad_lines(&mut lines);
+    seeded(&mut lines, Kind::Decoders, OF_DECODERS);
+    seeded(&mut lines, Kind::Station, OF_STATION);
     lines.retain(|line| line.is_ascii());
-    let mut generator = Generator::new(SEED, Kind::Everything);
-    while lines.len() < LINES {
-        let mut line = Vec::new();
-        generator.push_line(&mut line);
-        if line.is_ascii() {
-            lines.push(line);
-        }
-    }
     lines.push(phase(32, 0, &wave(&[0x01])));
     lines.join(&b'\n')
+}
+
+fn seeded(lines: &mut Lines, kind: Kind, number: usize) {
+    let mut generator = Generator::new(SEED, kind);
+    for _ in 0..number {
+        let mut line = Vec::new();
+        generator.push_line(&mut line);
+        lines.push(line);
+    }
 }
 
 pub fn answers(script: &[u8]) -> Vec<u8> {
@@ -207,7 +217,6 @@ fn edges(lines: &mut Lines) {
     search_edges(lines);
     better_edges(lines);
     length_edges(lines);
-    bad_lines(lines);
 }
 
 fn phase_edges(lines: &mut Lines) {
@@ -346,7 +355,7 @@ fn longest_line() -> Vec<u8> {
 fn bad_lines(lines: &mut Lines) {
     let mut random = Random::new(SEED + 2);
     let capture = wave(&[0xC3]);
-    let good = [
+    let mut good = vec![
         Command::Weight { sample: 0x0F }.line(),
         phase(32, -1, &capture),
         search(SNIFFED, &capture),
@@ -357,12 +366,27 @@ fn bad_lines(lines: &mut Lines) {
         better(SNIFFED, (8, 0, 218), (8, 1, 217)),
         lengths(&[8, 31], 31),
     ];
+    good.extend(stored_station::good_lines());
     lines.push(bsnew(ONLY_8));
     for line in &good {
         lines.push(line.clone());
         for way in 0..SPOILED_WAYS {
             lines.push(spoiled_in_way(line, way, &mut random));
         }
+    }
+    for (bytes, ticks) in [
+        (513, 4097),
+        (512, 4097),
+        (513, 4096),
+        (512, 4096),
+        (1, 0),
+        (0, 1),
+        (1, 9),
+        (2, 8),
+        (2, 17),
+        (3, 16),
+    ] {
+        lines.push(ticks_line(&vec![0xA5; bytes], ticks));
     }
     let mut too_long = longest_line();
     too_long.extend_from_slice(b"0");
@@ -387,6 +411,65 @@ fn bad_lines(lines: &mut Lines) {
         " weight 0f",
         "weight 0f ",
         "better",
+        "new ",
+        "new 0",
+        "policy",
+        "policy ",
+        "policy ON",
+        "policy onn",
+        "policy o",
+        "policy 0",
+        "policy auto off",
+        "tick",
+        "tick 2",
+        "tick 01",
+        "tick 00",
+        "tick -",
+        "tick -1",
+        "tick 1 1",
+        "ticks",
+        "ticks -",
+        "ticks 0",
+        "ticks  0",
+        "ticks - 00",
+        "ticks - -0",
+        "ticks -- 0",
+        "ticks 0 4",
+        "ticks 0F 8",
+        "ticks 0f 08",
+        "ticks 0f +8",
+        "ticks 0f 8 ",
+        "ticks 8 0f",
+        "start_tx 22",
+        "start_tx 022 95558000000000",
+        "start_tx 256 95558000000000",
+        "start_tx 22 9555800000000",
+        "start_tx 22 9555800000000000",
+        "start_tx 22 95558000000a0G",
+        "start_tx 22 95558000000A00",
+        "start_tx 22 -",
+        "start_tx 0",
+        "start_answer -1 95558000000000",
+        "start_answer 300 95558000000000",
+        "start_answer 22 95558000000000 ",
+        "start_answer 22",
+        "start 22 95558000000000",
+        "poll 0",
+        "take_idle 0",
+        "take_rx -",
+        "ack ack",
+        "state ",
+        "State",
+        "settle 65536 0",
+        "settle 0 256",
+        "settle 0",
+        "settle 0 0 0",
+        "settle -1 0",
+        "settle 00 0",
+        "gate",
+        "gate 256",
+        "gate 1 1",
+        "gate 0x1",
         "?",
         " ",
         "-",

@@ -1,0 +1,113 @@
+//! How often a script brings a station into each situation that its answers hang on.
+
+use std::collections::BTreeMap;
+
+use crate::answer::{bus_word, Session};
+use crate::command::{is_of_station, Command};
+use crate::fsm::BusState;
+use crate::generate::Generator;
+use crate::station::Station;
+
+/// One situation a line, with how often it came.
+pub fn table(generator: &mut Generator, lines: usize) -> String {
+    let mut coverage = Coverage {
+        session: Session::new(),
+        counts: BTreeMap::new(),
+    };
+    let mut line = Vec::new();
+    for _ in 0..lines {
+        line.clear();
+        generator.push_line(&mut line);
+        coverage.count_line(&line);
+    }
+    let rows = coverage.counts.iter();
+    rows.map(|(situation, times)| format!("{times:>10}  {situation}\n"))
+        .collect()
+}
+
+struct Coverage {
+    session: Session,
+    counts: BTreeMap<String, usize>,
+}
+
+impl Coverage {
+    fn count(&mut self, situation: String) {
+        *self.counts.entry(situation).or_insert(0) += 1;
+    }
+
+    fn count_line(&mut self, line: &[u8]) {
+        match Command::read(line) {
+            None => self.count("bad line".to_string()),
+            Some(Command::Tick { high }) => self.count_tick(high),
+            Some(Command::Ticks { levels }) => {
+                levels.iter().for_each(|high| self.count_tick(high));
+            }
+            Some(command) if is_of_station(command.number()) => self.count_call(&command),
+            Some(_) => {}
+        }
+    }
+
+    fn count_call(&mut self, command: &Command) {
+        let moment = moment(self.session.station());
+        let mut answer = Vec::new();
+        self.session.answer_command(command, &mut answer);
+        let told = match command {
+            Command::Settle { .. } | Command::Gate { .. } | Command::State => String::new(),
+            _ => brief(&String::from_utf8_lossy(&answer)),
+        };
+        self.count(format!("{} in {moment}: {told}", command.name()));
+    }
+
+    fn count_tick(&mut self, high: bool) {
+        let before = self.session.station().bus_state();
+        let mut answer = Vec::new();
+        self.session
+            .answer_command(&Command::Tick { high }, &mut answer);
+        let station = self.session.station();
+        let now = station.bus_state();
+        let level = if high { "high" } else { "low" };
+        let way = match (before, now) {
+            // A yield's tick counts as a first low one; a tick that ends a send doesn't.
+            (BusState::Tx, BusState::Idle) if station.is_debouncing() => "yields",
+            (BusState::Tx, BusState::Idle) => "ends",
+            _ => "goes",
+        };
+        let counts_are_full = [
+            (station.idle_ticks() == u16::MAX, "idle count is full"),
+            (station.low_run_ticks() == u16::MAX, "low run is full"),
+        ];
+        if before != now {
+            let from = word(before);
+            self.count(format!("a {level} tick {way} from {from} to {}", word(now)));
+        }
+        for (full, situation) in counts_are_full {
+            if full {
+                self.count(situation.to_string());
+            }
+        }
+    }
+}
+
+fn word(state: BusState) -> String {
+    String::from_utf8_lossy(bus_word(state)).to_string()
+}
+
+fn moment(station: &Station) -> String {
+    let debouncing = if station.is_debouncing() && station.bus_state() != BusState::Rx {
+        ", debouncing"
+    } else {
+        ""
+    };
+    word(station.bus_state()) + debouncing
+}
+
+/// The answer without what is too varied to be counted: of an event, the count's kind alone.
+fn brief(answer: &str) -> String {
+    let fields: Vec<&str> = answer.split(' ').collect();
+    match fields[..] {
+        ["event", "3", ..] => "event of the least count".to_string(),
+        ["event", "64", ..] => "event of the greatest count".to_string(),
+        ["event", ..] => "event".to_string(),
+        _ => answer.to_string(),
+    }
+}

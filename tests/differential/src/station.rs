@@ -1,0 +1,238 @@
+//! One station of the unchanged Rust, and the line that it is given in place of its HAL.
+
+use std::cell::Cell;
+use std::rc::Rc;
+use std::sync::atomic::Ordering;
+
+use crate::captures::bits_of;
+use crate::command::Command;
+use crate::fsm::{
+    BusState, CollisionPolicy, DaliBitbangPhy, RxCompletedEvent, RxState, TxPollResult,
+};
+use crate::halfbits::HalfBitBuffer;
+use crate::platform::hal::BitbangHal;
+
+pub const HALF_BIT_BYTES: usize = HalfBitBuffer::DATA_LEN;
+pub const MOST_HALF_BITS: u8 = HalfBitBuffer::MAX_DATA_HALF_BITS;
+const RELEASED_AT_END: u8 = 4;
+
+/// The two levels that pass between a station and its line. A tick on which the Rust sets no level leaves the driven one as it is.
+struct Line {
+    sampled_high: Cell<bool>,
+    driven_high: Cell<bool>,
+}
+
+impl BitbangHal for Rc<Line> {
+    fn bus_is_high(&mut self) -> bool {
+        self.sampled_high.get()
+    }
+
+    fn bus_set_high(&mut self) {
+        self.driven_high.set(true);
+    }
+
+    fn bus_set_low(&mut self) {
+        self.driven_high.set(false);
+    }
+}
+
+/// Half-bits as a start call takes them: so many of them are to be sent, from the first byte's top bit on; 1 pulls low.
+#[derive(Clone, Copy, PartialEq, Eq)]
+pub struct HalfBits {
+    pub len: u8,
+    pub data: [u8; HALF_BIT_BYTES],
+}
+
+impl HalfBits {
+    /// A frame as document 01 encodes it: start bit, data, four released half-bits, zero fill.
+    pub fn of_frame(bytes: &[u8]) -> Self {
+        let mut half_bits = Self {
+            len: 0,
+            data: [0; HALF_BIT_BYTES],
+        };
+        for bit in [true].into_iter().chain(bits_of(bytes)) {
+            half_bits.push(bit);
+            half_bits.push(!bit);
+        }
+        half_bits.len += RELEASED_AT_END;
+        half_bits
+    }
+
+    fn push(&mut self, pulls: bool) {
+        let place = 0x80 >> (self.len % 8);
+        if pulls {
+            self.data[usize::from(self.len / 8)] |= place;
+        }
+        self.len += 1;
+    }
+
+    pub fn pulls(&self, half_bit: u8) -> bool {
+        match self.data.get(usize::from(half_bit / 8)) {
+            Some(byte) => byte << (half_bit % 8) & 0x80 != 0,
+            None => false,
+        }
+    }
+}
+
+#[derive(Clone, Copy, PartialEq, Eq)]
+pub enum Start {
+    Tx,
+    Answer,
+}
+
+/// Why a start call says no; the Rust has one word for both.
+#[derive(Clone, Copy, PartialEq, Eq, Debug)]
+pub enum Refusal {
+    State = 7,
+    Length = 8,
+}
+
+pub struct Station {
+    machine: DaliBitbangPhy<Rc<Line>>,
+    line: Rc<Line>,
+}
+
+impl Station {
+    pub fn new() -> Self {
+        let line = Rc::new(Line {
+            sampled_high: Cell::new(true),
+            driven_high: Cell::new(true),
+        });
+        Self {
+            machine: DaliBitbangPhy::new(line.clone()),
+            line,
+        }
+    }
+
+    pub fn set_policy(&mut self, policy: CollisionPolicy) {
+        self.machine.set_collision_policy(policy);
+    }
+
+    /// Takes the sampled level and gives the driven one; high is true.
+    pub fn tick(&mut self, high: bool) -> bool {
+        self.line.sampled_high.set(high);
+        self.machine.tick();
+        self.drives_high()
+    }
+
+    /// The refusal is told from the state and the length, and held to the Rust's yes or no: were they
+    /// to part, no number could stand for the Rust's answer, so the run ends there.
+    pub fn start(&mut self, start: Start, half_bits: &HalfBits) -> Option<Refusal> {
+        let refusal = self.refusal(start, half_bits.len);
+        let buffer = HalfBitBuffer {
+            data: half_bits.data,
+            length: half_bits.len,
+        };
+        let started = match start {
+            Start::Tx => self.machine.start_tx(&buffer),
+            Start::Answer => self.machine.start_answer(&buffer),
+        };
+        assert_eq!(
+            started,
+            refusal.is_none(),
+            "a start with {} half-bits was expected to be refused with {:?}, and the Rust said {started}",
+            half_bits.len,
+            refusal
+        );
+        refusal
+    }
+
+    fn refusal(&self, start: Start, len: u8) -> Option<Refusal> {
+        let state_allows = match self.machine.bus_state() {
+            BusState::Idle => true,
+            BusState::Rx => start == Start::Answer,
+            BusState::Tx | BusState::CollisionTx => false,
+        };
+        if !state_allows {
+            Some(Refusal::State)
+        } else if len == 0 || len > MOST_HALF_BITS {
+            Some(Refusal::Length)
+        } else {
+            None
+        }
+    }
+
+    /// Makes a call whose answer isn't wanted; nothing for a command of another kind.
+    pub fn make(&mut self, command: &Command) {
+        match command {
+            Command::New => *self = Self::new(),
+            Command::Policy { policy } => self.set_policy(*policy),
+            Command::Tick { high } => {
+                self.tick(*high);
+            }
+            Command::Ticks { levels } => {
+                levels.answered(|high| self.tick(high));
+            }
+            Command::Start { start, half_bits } => {
+                self.start(*start, half_bits);
+            }
+            Command::Poll => {
+                self.poll();
+            }
+            Command::TakeIdle => {
+                self.take_idle();
+            }
+            Command::TakeRx => {
+                self.take_rx();
+            }
+            Command::Ack => self.acknowledge(),
+            _ => {}
+        }
+    }
+
+    pub fn poll(&mut self) -> TxPollResult {
+        self.machine.poll_tx_state()
+    }
+
+    pub fn take_idle(&mut self) -> bool {
+        self.machine.take_idle_after_break()
+    }
+
+    pub fn take_rx(&mut self) -> Option<RxCompletedEvent> {
+        self.machine.take_completed_rx_event()
+    }
+
+    pub fn acknowledge(&mut self) {
+        self.machine.acknowledge_rx_frame();
+    }
+
+    pub fn drives_high(&self) -> bool {
+        self.line.driven_high.get()
+    }
+
+    pub fn is_busy(&self) -> bool {
+        self.machine.tx_busy.load(Ordering::Acquire)
+    }
+
+    pub fn bus_state(&self) -> BusState {
+        self.machine.bus_state()
+    }
+
+    pub fn rx_state(&self) -> RxState {
+        self.machine.rx_state()
+    }
+
+    pub fn is_debouncing(&self) -> bool {
+        self.machine.line_debouncing()
+    }
+
+    pub fn idle_ticks(&self) -> u16 {
+        self.machine.idle_tick_count()
+    }
+
+    pub fn low_run_ticks(&self) -> u16 {
+        self.machine.bus_low_run_ticks()
+    }
+
+    pub fn tx_pre_idle_ticks(&self) -> u16 {
+        self.machine.tx_pre_idle_ticks()
+    }
+
+    pub fn rx_pre_idle_ticks(&self) -> u8 {
+        self.machine.rx_pre_idle_ticks()
+    }
+
+    pub fn last_event(&self) -> &RxCompletedEvent {
+        self.machine.last_rx_event()
+    }
+}
