@@ -2,10 +2,10 @@
 use Prim.Native.Nat.{ℕ, _+_, _*_, _/_, _%_, _≤_, _<_, min}
 use native.Mathlib.Omega.{arith}
 use native.Mathlib.Decide.{decLt}
-use mathlib.Core.Bool.{Bool, true, false, not, false≢true}
+use mathlib.Core.Bool.{Bool, true, false, false≢true}
 use mathlib.Core.Path.{_≡_, refl, sym, ap, subst, _∙_}
 use lib.Dec.{ltb, leb, eqb}
-use borrow.Author.Tests.{ltb-true, ltb-false, leb-true, leb-false, eqb-true, eqb-false}
+use borrow.Author.Tests.{ltb-true, ltb-false, eqb-true, eqb-false}
 use Rattle.laws.specs.Pick.{pick}
 use Rattle.laws.proofs.Picked.{on-false}
 use Rattle.machine.specs.declared.BusState.{BusState}
@@ -22,7 +22,7 @@ use Rattle.machine.specs.declared.CollisionPolicy.{CollisionPolicy}
 use Rattle.machine.specs.declared.Core.{Core}
 use Rattle.machine.specs.declared.TxHb.{TxHb}
 use Rattle.machine.specs.declared.RxState.the-variants.{Empty, Completed}
-use Rattle.machine.specs.Groups.{withTold, received, counting, spacing, telling, arming, driving}
+use Rattle.machine.specs.Groups.{withTold, received, telling}
 use Rattle.machine.specs.Runs.{heardOf}
 use Rattle.machine.specs.BecomingIdle.{idled}
 use Rattle.machine.specs.Sampling.{sampled, highRun, finished, rxTick, goesOn}

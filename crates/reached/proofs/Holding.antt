@@ -1,15 +1,12 @@
 -- The invariants of reached stations (specs/Invariants). Assumes nothing.
-use Prim.Native.Nat.{_≤_, _<_}
-use native.Mathlib.Omega.{arith}
-use mathlib.Core.Bool.{Bool, true, false, not, false≢true}
+use Prim.Native.Nat.{_≤_}
+use mathlib.Core.Bool.{true, false, not, false≢true}
 use mathlib.Core.Path.{_≡_, refl, sym, subst, _∙_}
 use Rattle.machine.specs.declared.BusState.{BusState}
 use Rattle.machine.specs.declared.BusState.the-variants as bus
 use Rattle.machine.specs.declared.Core.{Core}
-use Rattle.fsm.specs.declared.DaliBitbangPhy.{DaliBitbangPhy}
 use Rattle.fsm.specs.Starting.{hears}
-use Rattle.reached.specs.Calls.{Reached}
-use Rattle.reached.specs.Invariants.{isRx, isReceiving, Holds, Invariants}
+use Rattle.reached.specs.Invariants.{isRx, isReceiving, Invariants}
 use Rattle.reached.proofs.Cores.{Good, In, InIdle, InRx}
 use Rattle.reached.proofs.Stations.{Whole, reached-whole}
 

@@ -1,4 +1,5 @@
 pub mod Cases
 pub mod Cores
 pub mod Holding
+pub mod Shown
 pub mod Stations

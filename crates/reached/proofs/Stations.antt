@@ -17,14 +17,13 @@ use Rattle.machine.specs.declared.RxState.the-variants.{Empty, Receiving, Compl
 use Rattle.machine.specs.declared.TxStep.{TxStep}
 use Rattle.machine.specs.declared.TxStep.the-variants.{Arm, Yield, End, Clash, Hold, Drive}
 use Rattle.machine.specs.declared.Rx.{Rx}
-use Rattle.machine.specs.declared.TxHb.{TxHb}
 use Rattle.machine.specs.declared.Core.{Core}
-use Rattle.machine.specs.Groups.{withRx, withTold, received, counting, spacing, driving}
+use Rattle.machine.specs.Groups.{withRx}
 use Rattle.machine.specs.Runs.{heardOf}
 use Rattle.machine.specs.BecomingIdle.{idled}
-use Rattle.machine.specs.Sampling.{shifted, eighth, sampled, goesOn, finished, rxTick}
+use Rattle.machine.specs.Sampling.{eighth, sampled, goesOn, finished, rxTick}
 use Rattle.machine.specs.Idle.{idleTick, entered}
-use Rattle.machine.specs.Sending.{txStep, armed, yielded, clashed, held, driven, stepped, txTick}
+use Rattle.machine.specs.Sending.{armed, yielded, clashed, held, driven, stepped, txTick}
 use Rattle.machine.specs.Collision.{broke, collisionTick}
 use Rattle.machine.specs.Starting.{loaded}
 use Rattle.machine.specs.Acting as machine
@@ -32,7 +31,7 @@ use Rattle.fsm.specs.declared.DaliBitbangPhy.{DaliBitbangPhy}
 use Rattle.fsm.specs.declared.Started.{Started}
 use Rattle.fsm.specs.declared.StartAnswer.the-variants.{Busy}
 use Rattle.fsm.specs.declared.Polled.{Polled}
-use Rattle.fsm.specs.Station.{newCore, newStation, withCore, stationOf}
+use Rattle.fsm.specs.Station.{newCore, newStation, withCore}
 use Rattle.fsm.specs.Receiving.{filled, finishedRx, storedRx}
 use Rattle.fsm.specs.Ticking.{actOf, tickOf}
 use Rattle.fsm.specs.Starting.{isIdle, hears, lengthFits, startedWith, loadedWith, started, startTx, startAnswer}
@@ -41,7 +40,7 @@ use Rattle.fsm.specs.Calls.{withPolicy, tookIdle, acknowledged, tookRx}
 use Rattle.reached.specs.Calls.{Call, tick, start-tx, start-answer, poll, take-idle, take-rx, acknowledge, policy, after, Reached, new, called}
 use Rattle.reached.specs.Invariants.{isReceiving}
 use Rattle.reached.proofs.Cases.{cases}
-use Rattle.reached.proofs.Cores.{AnyOf, Good, In, act-good, rx-good, whole, loaded-good, telling-good, taken-good}
+use Rattle.reached.proofs.Cores.{Good, In, act-good, whole, loaded-good, telling-good, taken-good}
 
 pub record Whole (s : DaliBitbangPhy) : Type 0 where
   pub core : Good (s .core)
