@@ -1,9 +1,8 @@
 -- Document 01, "Machine": a tick. Assumes nothing.
-use mathlib.Core.Bool.{Bool}
+use mathlib.Core.Bool.{Bool, true, false}
+use Rattle.laws.specs.Pick.{pick}
 use Rattle.machine.specs.Runs.{heardOf}
-use Rattle.machine.specs.Idle.{idleTick}
-use Rattle.machine.specs.Sending.{txTick}
-use Rattle.machine.specs.Collision.{collisionTick}
+use Rattle.machine.specs.Acting as machine
 use Rattle.machine.specs.declared.BusState.{BusState}
 use Rattle.machine.specs.declared.BusState.the-variants as bus
 use Rattle.machine.specs.declared.Core.{Core}
@@ -12,12 +11,15 @@ use Rattle.fsm.specs.Receiving.{storedRx}
 use Rattle.fsm.specs.declared.DaliBitbangPhy.{DaliBitbangPhy}
 use Rattle.fsm.specs.declared.Ticked.{Ticked}
 
--- by state, once both run lengths are updated (`c`)
+unfoldable pub isRx : BusState → Bool
+isRx bus.Idle = false
+isRx bus.Rx = true
+isRx bus.Tx = false
+isRx bus.CollisionTx = false
+
+-- Both run lengths are updated, and then the core (`c`) acts by state. In Rx bytes of a capture may be written; in no other state.
 unfoldable pub actOf : BusState → DaliBitbangPhy → Core → Bool → DaliBitbangPhy
-actOf bus.Idle s c high = withCore s (idleTick c high)
-actOf bus.Rx s c high = storedRx s c high
-actOf bus.Tx s c high = withCore s (txTick c (s .«tx_hb») high)
-actOf bus.CollisionTx s c high = withCore s (collisionTick c high)
+actOf state s c high = pick (isRx state) (storedRx s c high) (withCore s (machine.actOf state c (s .«tx_hb») high))
 
 unfoldable pub tickOf : DaliBitbangPhy → Bool → DaliBitbangPhy
 tickOf s high = actOf (s .core .bus .«bus_state») s (heardOf (s .core) high) high

@@ -4,6 +4,7 @@ ghost use mathlib.Core.Bool.{not};
 ghost use Prim.Native.Nat.{_+_, _-_, min};
 ghost use lib.Dec.{eqb};
 ghost use lib.ListN.{set};
+ghost use Rattle.machine.specs.Sampling.{finished};
 ghost use Rattle.fsm.specs.Station.{eventOf, newEvent, newStation};
 ghost use Rattle.fsm.specs.Receiving.{filled, finishedRx, storedRx};
 ghost use Rattle.fsm.specs.Ticking.{ticked};
@@ -336,7 +337,7 @@ impl DaliBitbangPhy {
         rx: Rx,
         rx_data: [u8; DALI_RX_SAMPLE_BUF_LEN],
     ) -> DaliBitbangPhy
-        ensures { λ r. ⌜ r ≡ finishedRx self core rx «rx_data» ⌝ }
+        ensures { λ r. ⌜ r ≡ finishedRx self (finished core rx) rx «rx_data» ⌝ }
     {
         let samples = with_byte(rx_data, rx.rx_pos as usize, 0xFF);
         let next = core.finish_rx(rx);

@@ -6,4 +6,5 @@ pub mod Collision
 pub mod BecomingIdle
 pub mod Starting
 pub mod Acting
+pub mod Storing
 pub mod Groups

@@ -1,8 +1,8 @@
 -- Document 01, "Machine", Rx: what a sample does to the counters of a capture. (What it does to the bytes: fsm's specs/Receiving.)
 -- Assumes nothing.
 use Prim.Native.Nat.{ℕ, _+_, _*_, _%_, min}
-use mathlib.Core.Bool.{Bool, true}
-use lib.Dec.{eqb, ltb, leb}
+use mathlib.Core.Bool.{Bool}
+use lib.Dec.{eqb, ltb}
 use Rattle.laws.specs.Pick.{pick}
 use Rattle.machine.specs.Groups.{bit, withRx, withTold, received}
 use Rattle.machine.specs.BecomingIdle.{idled}
@@ -48,7 +48,3 @@ finished c r =
 
 unfoldable pub rxTick : Core → Bool → Core
 rxTick c high = pick (goesOn (sampled (c .rx) high)) (withRx c (sampled (c .rx) high)) (finished c (sampled (c .rx) high))
-
--- whether the next sample fills a byte or is the sixteenth high: on no other tick is a byte of a capture written
-unfoldable pub rxStores : Rx → Bool → Bool
-rxStores r high = pick (eighth r) true (leb 16 (highRun r high))

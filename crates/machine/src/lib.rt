@@ -4,12 +4,13 @@ ghost use Prim.Native.Nat.{_+_, _-_, _*_, _%_, min};
 ghost use Rattle.machine.specs.Groups.{bit, received};
 ghost use Rattle.machine.specs.Runs.{heardOf};
 ghost use Rattle.machine.specs.BecomingIdle.{idled};
-ghost use Rattle.machine.specs.Sampling.{highRun, sampled, rxStores, finished, rxTick};
+ghost use Rattle.machine.specs.Sampling.{highRun, sampled, finished, rxTick};
 ghost use Rattle.machine.specs.Idle.{entered, idleTick};
 ghost use Rattle.machine.specs.Sending.{watchesOf, clashOf, releasesAt, txStep, armed, yielded, clashed, held, driven, txTick};
 ghost use Rattle.machine.specs.Collision.{broke, collisionTick};
 ghost use Rattle.machine.specs.Starting.{loaded};
-ghost use Rattle.machine.specs.Acting.{actOf, storesOf};
+ghost use Rattle.machine.specs.Acting.{actOf};
+ghost use Rattle.machine.specs.Storing.{rxStores, storesOf};
 use halfbits::HalfBitBuffer;
 use window::DALI_RX_SAMPLE_BUF_LEN;
 

@@ -5,8 +5,9 @@ use mathlib.Core.Path.{_≡_, refl, sym, subst, _∙_}
 use Rattle.machine.specs.declared.BusState.{BusState}
 use Rattle.machine.specs.declared.BusState.the-variants as bus
 use Rattle.machine.specs.declared.Core.{Core}
+use Rattle.fsm.specs.Ticking.{isRx}
 use Rattle.fsm.specs.Starting.{hears}
-use Rattle.reached.specs.Invariants.{isRx, isReceiving, Invariants}
+use Rattle.reached.specs.Invariants.{isReceiving, Invariants}
 use Rattle.reached.proofs.Cores.{Good, In, InIdle, InRx}
 use Rattle.reached.proofs.Stations.{Whole, reached-whole}
 

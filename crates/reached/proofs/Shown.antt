@@ -9,15 +9,16 @@ use Rattle.machine.specs.declared.BusState.the-variants as bus
 use Rattle.machine.specs.declared.RxState.the-variants.{Completed}
 use Rattle.machine.specs.Runs.{heardOf}
 use Rattle.machine.specs.BecomingIdle.{idled}
-use Rattle.machine.specs.Sampling.{highRun, sampled, finished}
+use Rattle.machine.specs.Sampling.{highRun, sampled, finished, rxTick}
 use Rattle.machine.specs.Idle.{entered, idleTick}
 use Rattle.machine.specs.Sending.{watchesOf, clashOf, releasesAt, txStep, armed, clashed, held, driven, stepped, txTick}
 use Rattle.machine.specs.Collision.{broke, collisionTick}
 use Rattle.machine.specs.Starting.{loaded}
+use Rattle.machine.specs.Acting as machine
 use Rattle.fsm.specs.declared.DaliBitbangPhy.{DaliBitbangPhy}
 use Rattle.fsm.specs.Station.{newCore, newStation}
 use Rattle.fsm.specs.Receiving.{filled, finishedRx, storedRx}
-use Rattle.fsm.specs.Ticking.{actOf, tickOf}
+use Rattle.fsm.specs.Ticking.{isRx, actOf, tickOf}
 use Rattle.fsm.specs.Starting.{isIdle, lengthFits, loadedWith, started, startTx}
 use Rattle.reached.specs.Calls.{Call, tick, start-tx, after, Reached, new, called}
 
@@ -69,5 +70,5 @@ record Leads : Type 0 where
   finds-idle : run (times 14 high clash) .core .told .«tx_idle_after_break» ≡ true
 
 leads : Leads
-unfolding times run low high released sends clash capture after newStation newCore tickOf actOf heardOf idled idleTick entered sampled highRun storedRx filled finishedRx finished startTx isIdle lengthFits started loadedWith loaded txTick txStep clashOf watchesOf releasesAt stepped armed held driven clashed collisionTick broke pick
+unfolding times run low high released sends clash capture after newStation newCore tickOf isRx actOf machine.actOf rxTick heardOf idled idleTick entered sampled highRun storedRx filled finishedRx finished startTx isIdle lengthFits started loadedWith loaded txTick txStep clashOf watchesOf releasesAt stepped armed held driven clashed collisionTick broke pick
 leads = record { debounces = refl; receives = refl; completes = refl; sends-it = refl; breaks = refl; collides = refl; finds-idle = refl }

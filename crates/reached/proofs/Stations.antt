@@ -33,7 +33,7 @@ use Rattle.fsm.specs.declared.StartAnswer.the-variants.{Busy}
 use Rattle.fsm.specs.declared.Polled.{Polled}
 use Rattle.fsm.specs.Station.{newCore, newStation, withCore}
 use Rattle.fsm.specs.Receiving.{filled, finishedRx, storedRx}
-use Rattle.fsm.specs.Ticking.{actOf, tickOf}
+use Rattle.fsm.specs.Ticking.{isRx, actOf, tickOf}
 use Rattle.fsm.specs.Starting.{isIdle, hears, lengthFits, startedWith, loadedWith, started, startTx, startAnswer}
 use Rattle.fsm.specs.Polling.{isTx, polled}
 use Rattle.fsm.specs.Calls.{withPolicy, tookIdle, acknowledged, tookRx}
@@ -87,6 +87,15 @@ break-mark c high =
     let P : Core → Type 0 = λ (d : Core). d .told .«rx_state» ≡ c .told .«rx_state» in
     cases P (leb 14 ((c .tx .«tx_sp_cnt» + 1) % 256)) (λ _. cases P high (λ _. refl) (λ _. refl)) (λ _. refl)
 
+-- what an Rx tick leaves of the mark, and of the position
+going-mark : (c : Core) (high : Bool) → goesOn (sampled (c .rx) high) ≡ true → rxTick c high .told .«rx_state» ≡ c .told .«rx_state»
+unfolding rxTick
+going-mark c high few = ap (λ (d : Core). d .told .«rx_state») (on-true few (withRx c (sampled (c .rx) high)) (finished c (sampled (c .rx) high)))
+
+ended-count : (c : Core) (high : Bool) → goesOn (sampled (c .rx) high) ≡ false → rxTick c high .rx .«rx_pos» ≡ min (sampled (c .rx) high .«rx_pos» + 1) 65535
+unfolding rxTick finished idled
+ended-count c high done = ap (λ (d : Core). d .rx .«rx_pos») (on-false done (withRx c (sampled (c .rx) high)) (finished c (sampled (c .rx) high)))
+
 -- ---- a tick
 filled-length : (bytes : List ℕ) (r : Rx) (high : Bool) → length (filled bytes r high) ≡ length bytes
 unfolding filled
@@ -94,25 +103,26 @@ filled-length bytes r high = cases (λ (l : List ℕ). length l ≡ length bytes
 
 module _ (s : DaliBitbangPhy) (w : Whole s) (high : Bool) where
   rx-whole : s .core .bus .«bus_state» ≡ bus.Rx → Whole (storedRx s (heardOf (s .core) high) high)
-  unfolding storedRx finishedRx rxTick finished idled heardOf machine.actOf In
+  unfolding storedRx finishedRx heardOf machine.actOf In
   rx-whole e =
       let c : Core = heardOf (s .core) high in
       let r : Rx = sampled (s .core .rx) high in
       let g : Good (rxTick c high) = act-good bus.Rx (s .core) (s .«tx_hb») high e (w .core) in
+      let i : In bus.Rx (s .core .runs) (s .core .bus) (s .core .rx) (s .core .told) = subst (λ (x : BusState). In x (s .core .runs) (s .core .bus) (s .core .rx) (s .core .told)) e (w .core .state) in
       let kept : length (filled (s .«rx_data») (s .core .rx) high) ≡ 64 = filled-length (s .«rx_data») (s .core .rx) high ∙ w .data-whole in
       let ended : length (set (filled (s .«rx_data») (s .core .rx) high) (r .«rx_pos») 255) ≡ 64 = length-set (filled (s .«rx_data») (s .core .rx) high) (r .«rx_pos») 255 ∙ kept in
       cases Whole (goesOn r)
-      (λ few. record { core = subst Good (on-true few (withRx c r) (finished c r)) g; loads = w .loads; data-whole = kept; samples-whole = w .samples-whole; counts = w .counts })
+      (λ few. record { core = g; loads = w .loads; data-whole = kept; samples-whole = w .samples-whole; counts = λ m. w .counts (sym (going-mark c high few) ∙ m) })
       (λ done. record {
-        core = subst Good (on-false done (withRx c r) (finished c r)) g;
+        core = g;
         loads = w .loads;
         data-whole = ended;
         samples-whole = ended;
-        counts = λ _. whole (s .core) (w .core .any) (subst (λ (x : BusState). In x (s .core .runs) (s .core .bus) (s .core .rx) (s .core .told)) e (w .core .state)) e high done;
+        counts = λ _. subst (λ (n : ℕ). (3 ≤ n) × (n ≤ 64)) (sym (ended-count c high done)) (whole (s .core) (w .core .any) i e high done);
       })
 
   act-whole : (b : BusState) → s .core .bus .«bus_state» ≡ b → Whole (actOf b s (heardOf (s .core) high) high)
-  unfolding actOf machine.actOf txTick heardOf
+  unfolding actOf isRx pick machine.actOf txTick heardOf
   act-whole bus.Idle e = with-core s _ w (act-good bus.Idle (s .core) (s .«tx_hb») high e (w .core)) (idle-mark (heardOf (s .core) high) high)
   act-whole bus.Rx e = rx-whole e
   act-whole bus.Tx e = with-core s _ w (act-good bus.Tx (s .core) (s .«tx_hb») high e (w .core)) (λ m. sym (step-mark _ (heardOf (s .core) high)) ∙ m)

@@ -3,19 +3,13 @@ use Prim.Native.Nat.{ℕ, _≤_, _<_}
 use mathlib.Core.Bool.{Bool, true, false, not}
 use mathlib.Core.Path.{_≡_}
 use lib.ListN.{length}
-use Rattle.machine.specs.declared.BusState.{BusState}
 use Rattle.machine.specs.declared.BusState.the-variants as bus
 use Rattle.machine.specs.declared.RxState.{RxState}
 use Rattle.machine.specs.declared.RxState.the-variants.{Empty, Receiving, Completed}
 use Rattle.fsm.specs.declared.DaliBitbangPhy.{DaliBitbangPhy}
+use Rattle.fsm.specs.Ticking.{isRx}
 use Rattle.fsm.specs.Starting.{hears}
 use Rattle.reached.specs.Calls.{Reached}
-
-unfoldable pub isRx : BusState → Bool
-isRx bus.Idle = false
-isRx bus.Rx = true
-isRx bus.Tx = false
-isRx bus.CollisionTx = false
 
 unfoldable pub isReceiving : RxState → Bool
 isReceiving Empty = false

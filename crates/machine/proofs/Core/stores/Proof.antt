@@ -1,5 +1,5 @@
 -- `machine::Core::stores` meets its contract. Assumes nothing.
-use Rattle.machine.specs.Acting.{storesOf}
+use Rattle.machine.specs.Storing.{storesOf}
 use borrow.Author.Needs.{needs}
 use Rattle.machine.proofs.Core.stores.Statement.{statement}
 use Rattle.machine.proofs.Core.stores.Tie as tie

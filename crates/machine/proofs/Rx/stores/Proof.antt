@@ -1,7 +1,7 @@
 -- `machine::Rx::stores` meets its contract. Assumes nothing.
 use Rattle.laws.proofs.Picked.{on-false, on-true}
 use borrow.Author.Tests.{eq-eqb, ne-eqb}
-use Rattle.machine.specs.Sampling.{rxStores}
+use Rattle.machine.specs.Storing.{rxStores}
 use borrow.Author.Needs.{needs}
 use Rattle.machine.proofs.Rx.stores.Statement.{statement}
 use Rattle.machine.proofs.Rx.stores.Tie as tie
