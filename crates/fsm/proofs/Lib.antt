@@ -1,3 +1,4 @@
 pub mod Numbers
+pub mod Polls
 pub mod Quiet
 pub mod Sole

@@ -56,7 +56,7 @@ pub line-debouncing-sole : (κs : _) (a : _) (x : _) → Only (λ r. line-deboun
 line-debouncing-sole κs a x = named _
 
 pub poll-tx-state-sole : (κs : _) (a : _) (x : _) → Only (λ r. poll-tx-state.Post κs a r x)
-poll-tx-state-sole κs a x = named _
+poll-tx-state-sole κs a x = λ r s p q. p .0 ∙ sym (q .0)
 
 pub take-idle-after-break-sole : (κs : _) (a : _) (x : _) → Only (λ r. take-idle-after-break.Post κs a r x)
 take-idle-after-break-sole κs a x = named _

@@ -1,5 +1,6 @@
 -- Document 01, "Machine", Poll. Assumes nothing.
 use mathlib.Core.Bool.{Bool, true, false}
+use mathlib.Core.Path.{_≡_}
 use lib.Dec.{eqb}
 use Rattle.laws.specs.Pick.{pick}
 use Rattle.machine.specs.Groups.{telling}
@@ -16,6 +17,13 @@ isTx bus.Idle = false
 isTx bus.Rx = false
 isTx bus.Tx = true
 isTx bus.CollisionTx = false
+
+-- what each answer says of the station that is polled
+unfoldable pub Says : TxPollResult → DaliBitbangPhy → Type 0
+Says Yielded s = s .core .told .«tx_yielded» ≡ true
+Says Collision s = (s .core .told .«tx_yielded» ≡ false) × (s .core .told .«tx_collision» ≡ 0 → ⊥)
+Says Transmitting s = (s .core .told .«tx_yielded» ≡ false) × (s .core .told .«tx_collision» ≡ 0) × (isTx (s .core .bus .«bus_state») ≡ true)
+Says Ok s = (s .core .told .«tx_yielded» ≡ false) × (s .core .told .«tx_collision» ≡ 0) × (isTx (s .core .bus .«bus_state») ≡ false)
 
 abbrev pub polledWith : DaliBitbangPhy → TxPollResult → Polled
 polledWith s answer = record { station = s; answer = answer }

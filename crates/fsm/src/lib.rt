@@ -10,7 +10,7 @@ ghost use Rattle.fsm.specs.Receiving.{filled, finishedRx, storedRx};
 ghost use Rattle.fsm.specs.Ticking.{ticked};
 ghost use Rattle.fsm.specs.Refusals.{numberOf, startNumber};
 ghost use Rattle.fsm.specs.Starting.{isIdle, hears, lengthFits, started, startTx, startAnswer};
-ghost use Rattle.fsm.specs.Polling.{isTx, polled};
+ghost use Rattle.fsm.specs.Polling.{isTx, Says, polled};
 ghost use Rattle.fsm.specs.Calls.{withPolicy, tookIdle, acknowledged, tookRx};
 ghost use Rattle.machine.specs.declared.RxState.the-variants.{Empty, Completed};
 use halfbits::HalfBitBuffer;
@@ -487,6 +487,7 @@ impl DaliBitbangPhy {
 
     pub fn poll_tx_state(self) -> Polled
         ensures { λ r. ⌜ r ≡ polled self ⌝ }
+        ensures { λ r. ⌜ Says (r .answer) self ⌝ }
     {
         let mut station = self;
         let mut core = station.core;

@@ -34,7 +34,7 @@ sampled r high =
     (rxOf (r .«rx_pos») (shifted r high) ((r .«rx_bit_cnt» + 1) % 256) (highRun r high) (r .«rx_pre_idle»))
 
 -- ---- the end
--- the sixteenth high running
+-- fewer than sixteen highs running
 abbrev pub goesOn : Rx → Bool
 goesOn r = ltb (r .«rx_idle») 16
 

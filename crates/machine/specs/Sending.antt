@@ -36,8 +36,8 @@ unfoldable pub releasesAt : ℕ → ℕ → Bool
 releasesAt byte at = eqb (byte / 2 ^ (7 - at % 8) % 2) 0
 
 -- ---- which rule a tick follows: the first that fits
--- Armed: a low tick yields, but not if an answer is to be sent. Then, in this order: every half-bit has been begun; a clash; a half-bit is
--- not over yet; the 7 bytes are used up before the length; the next half-bit begins.
+-- Armed: a low tick yields, but not if an answer is to be sent. Then, in this order: every half-bit has been begun, so that the last one
+-- lasts one tick and isn't watched; a clash; a half-bit is not over yet; the 7 bytes are used up before the length; the next half-bit begins.
 unfoldable pub txStep : Tx → CollisionPolicy → TxHb → Bool → TxStep
 txStep tx policy hb high =
     let at = tx .«tx_hb_cnt» in

@@ -7,7 +7,7 @@ use mathlib.Core.Path.{_≡_, refl, sym, ap, subst, _∙_}
 use lib.Dec.{ltb, leb, eqb}
 use borrow.Author.Tests.{ltb-true, ltb-false, eqb-true, eqb-false}
 use Rattle.laws.specs.Pick.{pick}
-use Rattle.laws.proofs.Picked.{on-false}
+use Rattle.laws.proofs.Picked.{on-false, cases}
 use Rattle.machine.specs.declared.BusState.{BusState}
 use Rattle.machine.specs.declared.BusState.the-variants as bus
 use Rattle.machine.specs.declared.TxStep.{TxStep}
@@ -32,7 +32,6 @@ use Rattle.machine.specs.Collision.{broke, collisionTick}
 use Rattle.machine.specs.Starting.{loaded}
 use Rattle.machine.specs.Acting.{actOf}
 use Rattle.reached.specs.Invariants.{isReceiving}
-use Rattle.reached.proofs.Cases.{cases}
 
 -- ---- in any state
 pub record Any (high low collision : ℕ) (yielded : Bool) : Type 0 where

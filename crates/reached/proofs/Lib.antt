@@ -1,4 +1,3 @@
-pub mod Cases
 pub mod Cores
 pub mod Holding
 pub mod Shown

@@ -8,7 +8,7 @@ use lib.Dec.{eqb, ltb, leb}
 use lib.ListN.{length, set, length-set}
 use borrow.Author.Tests.{leb-true}
 use Rattle.laws.specs.Pick.{pick}
-use Rattle.laws.proofs.Picked.{on-true, on-false}
+use Rattle.laws.proofs.Picked.{on-true, on-false, cases}
 use Rattle.halfbits.specs.declared.HalfBitBuffer.{HalfBitBuffer}
 use Rattle.machine.specs.declared.BusState.{BusState}
 use Rattle.machine.specs.declared.BusState.the-variants as bus
@@ -39,7 +39,6 @@ use Rattle.fsm.specs.Polling.{isTx, polled}
 use Rattle.fsm.specs.Calls.{withPolicy, tookIdle, acknowledged, tookRx}
 use Rattle.reached.specs.Calls.{Call, tick, start-tx, start-answer, poll, take-idle, take-rx, acknowledge, policy, after, Reached, new, called}
 use Rattle.reached.specs.Invariants.{isReceiving}
-use Rattle.reached.proofs.Cases.{cases}
 use Rattle.reached.proofs.Cores.{Good, In, act-good, whole, loaded-good, telling-good, taken-good}
 
 pub record Whole (s : DaliBitbangPhy) : Type 0 where
