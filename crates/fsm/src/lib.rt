@@ -379,7 +379,7 @@ impl DaliBitbangPhy {
         self.finish_rx_and_notify(core, rx, rx_data)
     }
 
-    // Where nothing is written to a capture, the arrays are handed on untouched: a tick is twice as fast that way.
+    // Where nothing is written to a capture, the arrays are handed on untouched: they are copied less that way.
     pub fn tick(self, bus_is_high: bool) -> Ticked
         ensures { λ r. ⌜ r ≡ ticked self «bus_is_high» ⌝ }
     {
