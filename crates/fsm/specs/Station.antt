@@ -13,8 +13,8 @@ use Rattle.fsm.specs.declared.RxCompletedEvent.{RxCompletedEvent}
 use Rattle.fsm.specs.declared.LastRx.{LastRx}
 use Rattle.fsm.specs.declared.DaliBitbangPhy.{DaliBitbangPhy}
 
-abbrev pub lastRxOf : List ℕ → ℕ → ℕ → LastRx
-lastRxOf samples count pre = record { samples = samples; «sample_count» = count; «pre_idle_ticks» = pre }
+abbrev pub lastRxOf : List ℕ → ℕ → ℕ → ℕ → LastRx
+lastRxOf samples count pre epoch = record { samples = samples; «sample_count» = count; «pre_idle_ticks» = pre; «rx_epoch» = epoch }
 
 -- The event that a station hands out. The machine has nothing to say in its other fields, so they are those of a fresh event.
 unfoldable pub eventOf : LastRx → RxCompletedEvent
@@ -22,7 +22,7 @@ eventOf last = record {
   samples = last .samples;
   «sample_count» = last .«sample_count»;
   «pre_idle_ticks» = last .«pre_idle_ticks»;
-  «rx_epoch» = 0;
+  «rx_epoch» = last .«rx_epoch»;
   «rx_tick» = 0;
   «max_sample_gap_us» = 0;
   «timing_degraded» = false;
@@ -31,7 +31,7 @@ eventOf last = record {
 }
 
 abbrev pub noCapture : LastRx
-noCapture = lastRxOf (replicate 64 0) 0 0
+noCapture = lastRxOf (replicate 64 0) 0 0 0
 
 unfoldable pub newEvent : RxCompletedEvent
 newEvent = eventOf noCapture

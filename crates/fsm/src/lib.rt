@@ -102,11 +102,13 @@ impl RxCompletedEvent {
     }
 }
 
-// What a station keeps of its last event. Nothing in the machine changes the event's other fields, and a tick copies the less.
+// What a station keeps of its last event: what the machine sets, and one byte more, so that there is no gap. Nothing in the machine changes
+// the event's other fields, and a tick copies the less.
 pub struct LastRx {
     samples: [u8; DALI_RX_SAMPLE_BUF_LEN],
     sample_count: u16,
     pre_idle_ticks: u8,
+    rx_epoch: u8,
 }
 
 impl LastRx {
@@ -118,7 +120,7 @@ impl LastRx {
             samples,
             sample_count: self.sample_count,
             pre_idle_ticks: self.pre_idle_ticks,
-            rx_epoch: 0,
+            rx_epoch: self.rx_epoch,
             rx_tick: 0,
             max_sample_gap_us: 0,
             timing_degraded: false,
@@ -299,6 +301,7 @@ impl DaliBitbangPhy {
             samples: [0; DALI_RX_SAMPLE_BUF_LEN],
             sample_count: 0,
             pre_idle_ticks: 0,
+            rx_epoch: 0,
         };
         DaliBitbangPhy {
             core,
@@ -343,10 +346,12 @@ impl DaliBitbangPhy {
         let next = core.finish_rx(rx);
         let counted = next.rx;
         let tx_hb = self.tx_hb;
+        let old = self.last_rx;
         let last_rx = LastRx {
             samples,
             sample_count: counted.rx_pos,
             pre_idle_ticks: counted.rx_pre_idle,
+            rx_epoch: old.rx_epoch,
         };
         DaliBitbangPhy {
             core: next,
