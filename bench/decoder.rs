@@ -3,7 +3,8 @@
 //! Both sides are called one capture at a time through functions that the compiler can't look into; their answers are compared.
 
 use std::hint::black_box;
-use std::time::{Duration, Instant};
+
+mod common;
 
 mod fsm {
     pub const DALI_RX_SAMPLE_BUF_LEN: usize = 64;
@@ -14,6 +15,7 @@ mod manchester {
     include!(env!("OXIDALI_MANCHESTER"));
 }
 
+use common::{ratios, Random, ROUNDS};
 use manchester::{BestPhaseSearch, PhaseDecode, SampleWindow, SNIFFED_BIT_LENGTHS};
 
 const SAMPLES: usize = fsm::DALI_RX_SAMPLE_BUF_LEN;
@@ -22,7 +24,6 @@ const PHASES: [i8; 5] = [-2, -1, 0, 1, 2];
 
 const CAPTURES: usize = 3_000;
 const TURNS: usize = 12;
-const ROUNDS: usize = 25;
 
 // The proved library `timed`. A reference to an array passes as a pointer.
 extern "C" {
@@ -70,25 +71,11 @@ fn proved_search(capture: &Capture) -> u64 {
     unsafe { timed_search(&capture.samples, capture.count) }
 }
 
-struct Random(u64);
-
-impl Random {
-    fn below(&mut self, n: u64) -> u64 {
-        self.0 ^= self.0 << 13;
-        self.0 ^= self.0 >> 7;
-        self.0 ^= self.0 << 17;
-        self.0 % n
-    }
-}
-
 /// The wave of a frame of 8, 16 or 24 random bits: half-bits of four ticks, each run of ticks off by up to `jitter`.
 fn frame(random: &mut Random, jitter: u64) -> Capture {
-    let mut half_bits = vec![0, 1];
-    for _ in 0..8 * (1 + random.below(3)) {
-        half_bits.extend(if random.below(2) == 1 { [0, 1] } else { [1, 0] });
-    }
+    let bits = 8 * (1 + random.below(3));
     let mut ticks = Vec::new();
-    for level in half_bits {
+    for level in random.half_bits(bits) {
         let length = 4 + random.below(2 * jitter + 1) - jitter;
         ticks.extend((0..length).map(|_| level));
     }
@@ -111,38 +98,23 @@ fn captured(ticks: &[u8]) -> Capture {
     Capture { samples, count }
 }
 
-/// The time of one pass over all captures, and the sum of the answers.
-fn timed(captures: &[Capture], call: impl Fn(&Capture) -> u64) -> (Duration, u64) {
-    let start = Instant::now();
+/// The sum of the answers of all turns.
+fn over_all(captures: &[Capture], call: impl Fn(&Capture) -> u64) -> u64 {
     let mut sum = 0u64;
     for _ in 0..TURNS {
         for capture in captures {
             sum = sum.rotate_left(1) ^ call(black_box(capture));
         }
     }
-    (start.elapsed(), sum)
+    sum
 }
 
-/// The median over the rounds of the proved side's time divided by the Rust's. Each round times both, in turn first.
 fn ratio(
     captures: &[Capture],
     rust: impl Fn(&Capture) -> u64,
     proved: impl Fn(&Capture) -> u64,
 ) -> f64 {
-    let mut ratios: Vec<f64> = (0..ROUNDS)
-        .map(|round| {
-            let (ours, theirs) = if round % 2 == 0 {
-                let theirs = timed(captures, &rust);
-                (timed(captures, &proved), theirs)
-            } else {
-                (timed(captures, &proved), timed(captures, &rust))
-            };
-            assert_eq!(ours.1, theirs.1, "the two sides answer differently");
-            ours.0.as_secs_f64() / theirs.0.as_secs_f64()
-        })
-        .collect();
-    ratios.sort_by(f64::total_cmp);
-    ratios[ROUNDS / 2]
+    ratios(|| over_all(captures, &rust), || over_all(captures, &proved)).median
 }
 
 fn all_phases(capture: &Capture, decode: impl Fn(&Capture, i8) -> u64) -> u64 {

@@ -1,0 +1,146 @@
+// The station for a foreign loop that times it (bench/): ticks over the same levels again and again, and one number at the end, so that it
+// can be compared with the Rust's.
+ghost use mathlib.Core.Path.{_≡_};
+ghost use Prim.Native.Nat.{_+_, _≤_, _<_};
+ghost use lib.ListN.{getD};
+ghost use Rattle.machine.specs.Groups.{bit};
+ghost use Rattle.fsm.specs.Station.{newStation};
+ghost use Rattle.fsm.specs.Ticking.{isRx};
+ghost use Rattle.fsm.specs.Starting.{isIdle};
+ghost use Rattle.timed_ticks.specs.Ticks.{startsOf, levelOf, passOf, summed, timedFrom};
+use fsm::BusState;
+use fsm::DALI_RX_SAMPLE_BUF_LEN;
+use fsm::DaliBitbangPhy;
+use halfbits::HalfBitBuffer;
+
+const LEVELS: usize = 4_096;
+
+// As many half-bits as a start takes.
+const FRAME: HalfBitBuffer = HalfBitBuffer {
+    data: [0xA6, 0x59, 0x96, 0xA9, 0x55, 0x6A, 0x80],
+    length: HalfBitBuffer::MAX_DATA_HALF_BITS,
+};
+
+struct Pass {
+    station: DaliBitbangPhy,
+    highs: u32,
+}
+
+fn is_idle(bus_state: BusState) -> bool
+    ensures { λ r. ⌜ r ≡ isIdle «bus_state» ⌝ }
+{
+    match bus_state {
+        BusState::Idle => true,
+        BusState::Rx => false,
+        BusState::Tx => false,
+        BusState::CollisionTx => false,
+    }
+}
+
+fn starts(sends: bool, station: DaliBitbangPhy) -> bool
+    ensures { λ r. ⌜ r ≡ startsOf sends station ⌝ }
+{
+    if sends {
+        return is_idle(station.bus_state());
+    }
+    false
+}
+
+fn is_rx(bus_state: BusState) -> bool
+    ensures { λ r. ⌜ r ≡ isRx «bus_state» ⌝ }
+{
+    match bus_state {
+        BusState::Idle => false,
+        BusState::Rx => true,
+        BusState::Tx => false,
+        BusState::CollisionTx => false,
+    }
+}
+
+fn level_of(sends: bool, driven_high: bool, level: u8) -> bool
+    ensures { λ r. ⌜ r ≡ levelOf sends «driven_high» level ⌝ }
+{
+    if sends {
+        return driven_high;
+    }
+    level != 0
+}
+
+fn counted(highs: u32, driven_high: bool) -> u32
+    requires { ⌜ highs < 4096 ⌝ }
+    ensures { λ r. ⌜ r ≡ highs + bit «driven_high» ⌝ }
+{
+    if driven_high {
+        return highs + 1;
+    }
+    highs
+}
+
+// Three forms spare each tick copies of both captures: `tick` is called in one place, a start changes the loop's own station, and a station
+// that was receiving is taken back in an arm of its own (the tick of any other writes to no capture).
+fn one_pass(sends: bool, from: DaliBitbangPhy, levels: &[u8; LEVELS]) -> Pass
+    ensures { λ r. ⌜ r ≡ passOf sends from (now (levels .entry)) ⌝ }
+    ensures { λ r. ⌜ r .highs ≤ 4096 ⌝ }
+{
+    let levels: &[u8] = levels;
+    let mut station = from;
+    let mut highs: u32 = 0;
+    let mut i: usize = 0;
+    while i < LEVELS {
+        let level = levels[i];
+        if starts(sends, station) {
+            let started = station.start_tx(FRAME);
+            station = started.station;
+        }
+        let heard = level_of(sends, station.driven_high(), level);
+        let receiving = is_rx(station.bus_state());
+        let ticked = station.tick(heard);
+        if receiving {
+            station = ticked.station;
+            highs += 1;
+        } else {
+            station = ticked.station;
+            highs = counted(highs, ticked.driven_high);
+        }
+        i += 1;
+    }
+    Pass { station, highs }
+}
+
+fn byte_at(samples: [u8; DALI_RX_SAMPLE_BUF_LEN], at: usize) -> u8
+    requires { ⌜ at < 64 ⌝ }
+    ensures { λ r. ⌜ r ≡ getD samples at 0 ⌝ }
+{
+    samples[at]
+}
+
+fn sum_of(sum: u64, left: u32, pass: Pass) -> u64
+    requires { ⌜ pass .highs ≤ 4096 ⌝ }
+    ensures { λ r. ⌜ r ≡ summed sum left pass ⌝ }
+{
+    let station = pass.station;
+    let event = station.last_rx_event();
+    let samples = event.samples;
+    let at = (left % 64) as usize;
+    let highs = pass.highs as u64;
+    let idle = station.idle_tick_count() as u64;
+    let count = event.sample_count as u64;
+    let byte = byte_at(samples, at) as u64;
+    sum % 4_294_967_296 * 31 + (highs + idle + count * 3 + byte)
+}
+
+#[no_mangle]
+pub extern "C" fn timed_ticks(levels: &[u8; LEVELS], passes: u32, sends: bool) -> u64
+    ensures { λ r. ⌜ r ≡ timedFrom sends (now (levels .entry)) passes newStation 0 ⌝ }
+{
+    let mut station = DaliBitbangPhy::new();
+    let mut sum: u64 = 0;
+    let mut left = passes;
+    while left != 0 {
+        left -= 1;
+        let pass = one_pass(sends, station, levels);
+        station = pass.station;
+        sum = sum_of(sum, left, pass);
+    }
+    sum
+}
