@@ -1,7 +1,7 @@
 // The answers' buffer: each function puts something at a place of it and answers the place past that. What it requires is room for
 // the longest that it may put, five digits to a decimal number, so no answer is ever cut.
 ghost use mathlib.Core.Path.{_≡_};
-ghost use Prim.Native.Nat.{_+_, _≤_, _<_};
+ghost use Prim.Native.Nat.{_+_, _*_, _≤_, _<_};
 ghost use lib.ListN.{length};
 ghost use Rattle.calls.specs.Bounds.{Room};
 
@@ -89,6 +89,15 @@ pub(crate) fn put_decimal(out: &mut Answers, at: usize, number: u16) -> usize
     put_digits(out, at, number as u64, 10, places(number))
 }
 
+// A space, and a number.
+pub(crate) fn put_field(out: &mut Answers, at: usize, number: u16) -> usize
+    requires { ⌜ Room at 6 ⌝ }
+    ensures { λ r. ⌜ r ≤ at + 6 ⌝ }
+{
+    let at = put_byte(out, at, b' ');
+    put_decimal(out, at, number)
+}
+
 pub(crate) fn put_phase(out: &mut Answers, at: usize, phase_ticks: i8) -> usize
     requires { ⌜ Room at 6 ⌝ }
     ensures { λ r. ⌜ r ≤ at + 6 ⌝ }
@@ -115,4 +124,21 @@ pub(crate) fn put_hex16(out: &mut Answers, at: usize, number: u64) -> usize
     ensures { λ r. ⌜ r ≡ at + 16 ⌝ }
 {
     put_digits(out, at, number, 16, 16)
+}
+
+// Each byte as two hex digits.
+pub(crate) fn put_hex(out: &mut Answers, at: usize, bytes: &[u8]) -> usize
+    requires { ⌜ Room at (2 * length (now bytes)) ⌝ }
+    ensures { λ r. ⌜ r ≡ at + 2 * length (now (bytes .entry)) ⌝ }
+{
+    let mut end = at;
+    let mut i = 0;
+    while i < bytes.len() {
+        let byte = bytes[i];
+        out[end] = glyph(byte / 16);
+        out[end + 1] = glyph(byte % 16);
+        end += 2;
+        i += 1;
+    }
+    end
 }

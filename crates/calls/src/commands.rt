@@ -5,6 +5,8 @@ use crate::answer;
 use crate::answer::Answers;
 use crate::decoders;
 use crate::kept_search;
+use crate::station;
+use fsm::DaliBitbangPhy;
 use lengths::BitLengths;
 use search::BestPhaseSearch;
 
@@ -16,6 +18,7 @@ pub(crate) const ANSWER_MAX: usize = 10_000;
 // What is kept from line to line.
 pub(crate) struct Kept {
     search: BestPhaseSearch,
+    station: DaliBitbangPhy,
 }
 
 // What an answer leaves: what is kept, and the place past the answer.
@@ -25,11 +28,12 @@ pub(crate) struct Answered {
 }
 
 impl Kept {
-    // Before its first `bsnew` the kept search prefers no length.
+    // Before its first `bsnew` the kept search prefers no length, and before its first `new` the station is a new one.
     pub(crate) fn new() -> Kept {
         let none = [0u8; 0];
         Kept {
             search: BestPhaseSearch::new(BitLengths::of(&none)),
+            station: DaliBitbangPhy::new(),
         }
     }
 }
@@ -67,10 +71,20 @@ fn command(line: &[u8], kept: Kept, out: &mut Answers, at: usize) -> Answered
     if at < end {
         return Answered { kept, at: end };
     }
-    let answered = kept_search::answer(line, kept.search, out, at);
-    let search = answered.search;
+    let searched = kept_search::answer(line, kept.search, out, at);
+    let end = searched.at;
+    let search = searched.search;
+    if at < end {
+        let station = kept.station;
+        return Answered {
+            kept: Kept { search, station },
+            at: end,
+        };
+    }
+    let called = station::answer(line, kept.station, out, at);
+    let station = called.station;
     Answered {
-        kept: Kept { search },
-        at: answered.at,
+        kept: Kept { search, station },
+        at: called.at,
     }
 }

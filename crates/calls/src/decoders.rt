@@ -20,25 +20,15 @@ pub(crate) fn answer(line: &[u8], out: &mut Answers, at: usize) -> usize
     ensures { λ r. ⌜ r ≤ at + 9999 ⌝ }
 {
     let word = fields::field(line, 0);
-    if fields::is(word, b"weight") {
-        return weight(line, out, at);
+    match fields::place(word, b"weight phase search steps better lengths") {
+        0 => weight(line, out, at),
+        1 => phase(line, out, at),
+        2 => search(line, out, at),
+        3 => steps(line, out, at),
+        4 => better(line, out, at),
+        5 => lengths(line, out, at),
+        _ => at,
     }
-    if fields::is(word, b"phase") {
-        return phase(line, out, at);
-    }
-    if fields::is(word, b"search") {
-        return search(line, out, at);
-    }
-    if fields::is(word, b"steps") {
-        return steps(line, out, at);
-    }
-    if fields::is(word, b"better") {
-        return better(line, out, at);
-    }
-    if fields::is(word, b"lengths") {
-        return lengths(line, out, at);
-    }
-    at
 }
 
 // `weight HH`

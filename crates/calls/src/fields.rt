@@ -63,3 +63,19 @@ pub(crate) fn is(field: &[u8], word: &[u8]) -> bool {
     }
     true
 }
+
+// Which of the words the field is, counted from 0; how many there are where it is none of them. They stand as the fields of a line do.
+pub(crate) fn place(field: &[u8], words: &[u8]) -> usize {
+    let mut n = 0;
+    let mut from = 0;
+    while from < words.len() {
+        let left = &words[from..];
+        let end = first_space(left);
+        if is(field, &left[..end]) {
+            return n;
+        }
+        n += 1;
+        from += end + 1;
+    }
+    n
+}

@@ -20,19 +20,15 @@ pub(crate) fn answer(line: &[u8], search: BestPhaseSearch, out: &mut Answers, at
     ensures { λ r. ⌜ r .at ≤ at + 47 ⌝ }
 {
     let word = fields::field(line, 0);
-    if fields::is(word, b"bsnew") {
-        return bsnew(line, search, out, at);
-    }
-    if fields::is(word, b"bsstep") {
-        return bsstep(line, search, out, at);
-    }
-    if fields::is(word, b"bsrun") {
-        return Searched {
+    match fields::place(word, b"bsnew bsstep bsrun") {
+        0 => bsnew(line, search, out, at),
+        1 => bsstep(line, search, out, at),
+        2 => Searched {
             search,
             at: bsrun(line, search, out, at),
-        };
+        },
+        _ => Searched { search, at },
     }
-    Searched { search, at }
 }
 
 // `bsnew MASKHEX8`

@@ -86,8 +86,8 @@ impl Session {
             if end == chunk.len() {
                 return session;
             }
-            session = session.end_line(line, out);
             from = end + 1;
+            session = session.end_line(line, out);
         }
         session
     }

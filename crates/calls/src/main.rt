@@ -7,7 +7,10 @@ mod fields;
 mod kept_search;
 mod lines;
 mod operands;
+mod reports;
 mod results;
+mod station;
+mod ticks;
 mod values;
 
 ghost use Rattle.calls.specs.Bounds.{Sound};

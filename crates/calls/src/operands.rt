@@ -1,4 +1,4 @@
-// What the decoders' commands work on, read from fields of a line: a window, a set of lengths, a decode.
+// What the commands work on, read from fields of a line: a window, a set of lengths, a decode, a policy.
 ghost use Prim.Native.Nat.{_<_};
 use crate::fields;
 use crate::values;
@@ -7,6 +7,7 @@ use crate::values::Byte;
 use crate::values::Count;
 use crate::values::Number;
 use crate::values::Phase;
+use fsm::CollisionPolicy;
 use lengths::BitLengths;
 use window::DALI_RX_SAMPLE_BUF_LEN;
 use window::PhaseDecode;
@@ -25,6 +26,11 @@ pub(crate) enum Preferred {
 
 pub(crate) enum Decode {
     Is(PhaseDecode),
+    Bad,
+}
+
+pub(crate) enum Policy {
+    Is(CollisionPolicy),
     Bad,
 }
 
@@ -103,4 +109,14 @@ pub(crate) fn read_lengths(field: &[u8]) -> Preferred {
         return Preferred::Bad;
     };
     Preferred::Lengths(BitLengths::of(&lengths[..count]))
+}
+
+// `auto|off|on`
+pub(crate) fn read_policy(field: &[u8]) -> Policy {
+    match fields::place(field, b"auto off on") {
+        0 => Policy::Is(CollisionPolicy::Auto),
+        1 => Policy::Is(CollisionPolicy::Off),
+        2 => Policy::Is(CollisionPolicy::On),
+        _ => Policy::Bad,
+    }
 }

@@ -1,0 +1,142 @@
+// The commands on the kept station, and `settle` and `gate`, which take none. Where a field is bad, nothing is written and the station
+// stays as it is.
+ghost use Prim.Native.Nat.{_+_, _≤_};
+ghost use Rattle.calls.specs.Bounds.{Room};
+use crate::answer;
+use crate::answer::Answers;
+use crate::fields;
+use crate::operands;
+use crate::operands::Policy;
+use crate::reports;
+use crate::ticks;
+use crate::values;
+use crate::values::Byte;
+use crate::values::Number;
+use fsm::DaliBitbangPhy;
+use halfbits::HalfBitBuffer;
+
+// What an answer leaves: the station that is kept, and the place past the answer.
+pub(crate) struct Called {
+    pub(crate) station: DaliBitbangPhy,
+    pub(crate) at: usize,
+}
+
+pub(crate) fn answer(line: &[u8], station: DaliBitbangPhy, out: &mut Answers, at: usize) -> Called
+    requires { ⌜ Room at 1026 ⌝ }
+    ensures { λ r. ⌜ r .at ≤ at + 1026 ⌝ }
+{
+    let word = fields::field(line, 0);
+    match fields::place(word, b"ticks tick start_tx start_answer policy settle gate") {
+        0 => ticks::ticks(line, station, out, at),
+        1 => ticks::tick(line, station, out, at),
+        2 => start(line, station, false, out, at),
+        3 => start(line, station, true, out, at),
+        4 => policy(line, station, out, at),
+        5 => Called {
+            station,
+            at: settle(line, out, at),
+        },
+        6 => Called {
+            station,
+            at: gate(line, out, at),
+        },
+        _ => bare(line, station, out, at),
+    }
+}
+
+// The commands that take no operand: the line is the name.
+fn bare(line: &[u8], station: DaliBitbangPhy, out: &mut Answers, at: usize) -> Called
+    requires { ⌜ Room at 208 ⌝ }
+    ensures { λ r. ⌜ r .at ≤ at + 208 ⌝ }
+{
+    match fields::place(line, b"state poll take_rx take_idle ack new") {
+        0 => Called {
+            station,
+            at: reports::put_state(out, at, station),
+        },
+        1 => reports::put_poll(out, at, station),
+        2 => reports::put_taken_rx(out, at, station),
+        3 => reports::put_taken_idle(out, at, station),
+        4 => ok(station.acknowledge_rx_frame(), out, at),
+        5 => ok(DaliBitbangPhy::new(), out, at),
+        _ => Called { station, at },
+    }
+}
+
+fn ok(station: DaliBitbangPhy, out: &mut Answers, at: usize) -> Called
+    requires { ⌜ Room at 2 ⌝ }
+    ensures { λ r. ⌜ r .at ≤ at + 2 ⌝ }
+{
+    Called {
+        station,
+        at: answer::put_text(out, at, b"ok"),
+    }
+}
+
+// `policy auto|off|on`
+fn policy(line: &[u8], station: DaliBitbangPhy, out: &mut Answers, at: usize) -> Called
+    requires { ⌜ Room at 2 ⌝ }
+    ensures { λ r. ⌜ r .at ≤ at + 2 ⌝ }
+{
+    let Policy::Is(policy) = operands::read_policy(fields::rest(line, 1)) else {
+        return Called { station, at };
+    };
+    ok(station.set_collision_policy(policy), out, at)
+}
+
+// `start_tx LEN HEX14` and `start_answer LEN HEX14`
+fn start(
+    line: &[u8],
+    station: DaliBitbangPhy,
+    answers: bool,
+    out: &mut Answers,
+    at: usize,
+) -> Called
+    requires { ⌜ Room at 9 ⌝ }
+    ensures { λ r. ⌜ r .at ≤ at + 9 ⌝ }
+{
+    let Byte::Is(length) = values::read_byte(fields::field(line, 1)) else {
+        return Called { station, at };
+    };
+    let mut data = [0u8; HalfBitBuffer::DATA_LEN];
+    if !values::read_hex(fields::rest(line, 2), &mut data) {
+        return Called { station, at };
+    }
+    let halfbits = HalfBitBuffer { data, length };
+    let started = if answers {
+        station.start_answer(halfbits)
+    } else {
+        station.start_tx(halfbits)
+    };
+    let next = started.station;
+    let start_answer = started.answer;
+    Called {
+        station: next,
+        at: reports::put_start_answer(out, at, start_answer),
+    }
+}
+
+// `settle A B`
+fn settle(line: &[u8], out: &mut Answers, at: usize) -> usize
+    requires { ⌜ Room at 5 ⌝ }
+    ensures { λ r. ⌜ r ≤ at + 5 ⌝ }
+{
+    let Number::Is(pre_idle_ticks) = values::read_number(fields::field(line, 1), u16::MAX) else {
+        return at;
+    };
+    let Byte::Is(lead) = values::read_byte(fields::rest(line, 2)) else {
+        return at;
+    };
+    answer::put_decimal(out, at, fsm::settle_ticks_on_wire(pre_idle_ticks, lead))
+}
+
+// `gate A`
+fn gate(line: &[u8], out: &mut Answers, at: usize) -> usize
+    requires { ⌜ Room at 5 ⌝ }
+    ensures { λ r. ⌜ r ≤ at + 5 ⌝ }
+{
+    let Byte::Is(release_to_edge_ticks) = values::read_byte(fields::rest(line, 1)) else {
+        return at;
+    };
+    answer::put_decimal(out, at, fsm::restart_gate_for(release_to_edge_ticks) as u16)
+}
