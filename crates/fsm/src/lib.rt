@@ -36,6 +36,13 @@ pub use window::DALI_RX_SAMPLE_BUF_LEN;
 
 pub const LINE_HELD_TICKS: u16 = 24;
 
+// Nobody calls this: its promise is what the constant means.
+fn line_held_ticks() -> u16
+    ensures { λ r. ⌜ r ≡ 24 ⌝ }
+{
+    LINE_HELD_TICKS
+}
+
 pub enum TxPollResult {
     Ok = 0,
     Collision = 3,
@@ -624,14 +631,7 @@ impl DaliBitbangPhy {
         ensures { λ r. ⌜ r ≡ acknowledged Completed self ⌝ }
     {
         let mut core = self.core;
-        let old = core.told;
-        let told = Told {
-            tx_pre_idle: old.tx_pre_idle,
-            rx_state: RxState::Empty,
-            tx_collision: old.tx_collision,
-            tx_idle_after_break: old.tx_idle_after_break,
-            tx_yielded: old.tx_yielded,
-        };
+        let told = core.in_rx_state(RxState::Empty);
         core.told = told;
         let mut station = self;
         station.core = core;

@@ -4,6 +4,7 @@ use Rattle.laws.proofs.Only.{Only, named}
 use Rattle.machine.proofs.Rx.shifted.Reads as shifted
 use Rattle.machine.proofs.Rx.with_sample.Reads as with-sample
 use Rattle.machine.proofs.Core.heard.Reads as heard
+use Rattle.machine.proofs.Core.in_rx_state.Reads as in-rx-state
 use Rattle.machine.proofs.Core.finish_rx.Reads as finish-rx
 use Rattle.machine.proofs.Core.act.Reads as act
 use Rattle.machine.proofs.Core.stores.Reads as stores
@@ -17,6 +18,9 @@ with-sample-sole κs a x = named _
 
 pub heard-sole : (κs : _) (a : _) (x : _) → Only (λ r. heard.Post κs a r x)
 heard-sole κs a x = named _
+
+pub in-rx-state-sole : (κs : _) (a : _) (x : _) → Only (λ r. in-rx-state.Post κs a r x)
+in-rx-state-sole κs a x = named _
 
 pub finish-rx-sole : (κs : _) (a : _) (x : _) → Only (λ r. finish-rx.Post κs a r x)
 finish-rx-sole κs a x = named _

@@ -37,6 +37,13 @@ const COLLISION_CHECK_TICK: u8 = COLLISION_BREAK_TICKS + 2;
 
 const BACKWARD_FRAME_HALF_BITS: u8 = 22;
 
+// Nobody calls this: its promise is what the constant means.
+fn phy_tick_us() -> u32
+    ensures { λ r. ⌜ r ≡ 104 ⌝ }
+{
+    PHY_TICK_US
+}
+
 pub enum BusState {
     Idle = 0,
     Rx = 1,
@@ -343,7 +350,8 @@ impl Core {
         core
     }
 
-    fn in_rx_state(self, rx_state: RxState) -> Told
+    // What the calls tell of, with another mark of the capture.
+    pub fn in_rx_state(self, rx_state: RxState) -> Told
         ensures { λ r. ⌜ r ≡ received self «rx_state» ⌝ }
     {
         let told = self.told;
