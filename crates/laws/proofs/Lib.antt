@@ -2,3 +2,4 @@ pub mod Below
 pub mod Digits
 pub mod Only
 pub mod Picked
+pub mod Tabulated

@@ -1,2 +1,3 @@
 pub mod Packed
 pub mod Pick
+pub mod Tabulate
