@@ -28,6 +28,13 @@ withLengths set (n ∷ ns) = withLengths (withLength set n) ns
 unfoldable pub setOf : List ℕ → BitLengths
 setOf ns = withLengths (mask 0) ns
 
+-- the frames that are looked for on the line, and the one that is an answer
+unfoldable pub sniffedLengths : BitLengths
+sniffedLengths = setOf (8 ∷ 16 ∷ 24 ∷ [])
+
+unfoldable pub backwardLengths : BitLengths
+backwardLengths = setOf (8 ∷ [])
+
 -- the length n stands in the list and is below 32
 unfoldable pub listed : ℕ → List ℕ → Bool
 listed n [] = false

@@ -1,7 +1,7 @@
 // Sets of preferred frame lengths, from source document 001 (manchester.rs).
 ghost use mathlib.Core.Path.{_≡_};
 ghost use mathlib.Core.List.{[], _∷_};
-ghost use Rattle.lengths.specs.Lengths.{holds, withLength, setOf, HoldsJust};
+ghost use Rattle.lengths.specs.Lengths.{holds, withLength, setOf, sniffedLengths, backwardLengths, HoldsJust};
 
 // Bit n of the number stands for the length n.
 pub struct BitLengths(u32);
@@ -44,15 +44,27 @@ impl BitLengths {
     }
 }
 
-// The lengths 8, 16 and 24. A constant can't call `of`, so the number stands here and `sniffed` says what it is.
+// A constant can't call `of`, so the sets stand here as numbers, and the promises of `sniffed` and `backward` say what they are.
+
+// The lengths 8, 16 and 24.
 pub const SNIFFED_BIT_LENGTHS: BitLengths = BitLengths(0x0101_0100);
+
+// The length 8 alone. From source document 003 (rx_decode.rs), which stands above this crate.
+pub const BACKWARD_FRAME_BIT_LENGTHS: BitLengths = BitLengths(0x0000_0100);
 
 pub const FORWARD24_BITS: u8 = 24;
 
-// Nobody calls this: its promise is what the constant means.
+// Nobody calls this, nor the next: their promises are what the constants mean.
 fn sniffed() -> BitLengths
-    ensures { λ r. ⌜ r ≡ setOf (8 ∷ 16 ∷ 24 ∷ []) ⌝ }
+    ensures { λ r. ⌜ r ≡ sniffedLengths ⌝ }
     ensures { λ r. ⌜ HoldsJust r (8 ∷ 16 ∷ 24 ∷ []) ⌝ }
 {
     SNIFFED_BIT_LENGTHS
+}
+
+fn backward() -> BitLengths
+    ensures { λ r. ⌜ r ≡ backwardLengths ⌝ }
+    ensures { λ r. ⌜ HoldsJust r (8 ∷ []) ⌝ }
+{
+    BACKWARD_FRAME_BIT_LENGTHS
 }
