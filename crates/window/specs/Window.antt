@@ -26,9 +26,13 @@ emptyWindow = windowWith (replicate 66 0) 0 0
 abbrev pub sampleBits : SampleWindow → ℕ
 sampleBits w = min (w .bits) 512
 
--- One tick, counted from the top bit of the first byte on. Behind the pad there are only zeros.
+-- One tick of some bytes, counted from the top bit of the first byte on: 0 for low and 1 for high.
+abbrev pub levelOf : List ℕ → ℕ → ℕ
+levelOf bytes p = getD bytes (p / 8) 0 / 2 ^ (7 - p % 8) % 2
+
+-- One tick of a window. Behind the pad there are only zeros.
 unfoldable pub tickAt : SampleWindow → ℕ → ℕ
-tickAt w p = pick (ltb (p / 8) (w .len)) (getD (w .bytes) (p / 8) 0 / 2 ^ (7 - p % 8) % 2) 0
+tickAt w p = pick (ltb (p / 8) (w .len)) (levelOf (w .bytes) p) 0
 
 -- What a peek from before the first tick sees at a position. To the left of the capture its first tick goes on: the pad's where there is no
 -- sample, and a 1 where there is no byte at all. To the right of the samples the line is idle.

@@ -244,8 +244,8 @@ impl SampleWindow {
     }
 }
 
-// The samples that a window keeps of a capture.
-fn kept(sample_count: u16) -> usize
+// The samples that there are of a capture: as many as it counts, 64 if it counts more.
+pub fn kept(sample_count: u16) -> usize
     ensures { λ r. ⌜ r ≡ min «sample_count» 64 ⌝ }
 {
     let count = sample_count as usize;
