@@ -4,16 +4,16 @@ use mathlib.Core.Bool.{Bool, true, false}
 use Prim.Native.Nat.{ℕ, suc, _+_, _-_, _*_, _/_, _%_, _^_, _≤_, _<_}
 use native.Mathlib.Omega.{arith}
 use native.Mathlib.Decide.{decLt}
-use native.Mathlib.Nat.{zero-div, div-one, mul-assoc, mul-comm, add-comm, mul-add-div-right}
+use native.Mathlib.Nat.{zero-div, div-one, mul-assoc, mul-comm, add-mul, add-assoc, add-comm, mul-add-div-right}
 use lib.Dec.{ltb}
 use lib.IntN.{ℤ, pos, negsuc, subℕ, _+ℤ_, +ℤ-comm}
 use lib.ListN.{getD}
-use lib.Pow.{high, low, pow-add, pow-pos, shr-lt, shr-mod, mod-pow-add}
+use lib.Pow.{high, low, pow-add, pow-pos, shr-lt, shr-shr, shr-mod, mod-pow-add, mod-mod-pow, field}
 use borrow.Author.Tests.{lt-ltb, le-ltb}
 use Rattle.laws.specs.Packed.{packed}
 use Rattle.laws.specs.Pick.{pick}
 use Rattle.laws.proofs.Picked.{on-true, on-false}
-use Rattle.laws.proofs.Digits.{packed-same, packed-add, packed-bits}
+use Rattle.laws.proofs.Digits.{packed-same, packed-add, packed-bits, packed-lt}
 use Rattle.window.specs.declared.SampleWindow.{SampleWindow}
 use Rattle.window.specs.Window.{tickAt, levelBefore, peekAt}
 use Rattle.window.specs.Code.{byteAt}
@@ -90,6 +90,77 @@ module _ (w : SampleWindow) (p : ℕ) where
       → (byteAt (w .bytes) (w .len) (p / 8) 0 * 256 + byteAt (w .bytes) (w .len) (p / 8 + 1) 0) / 2 ^ (8 - p % 8) % 256 ≡ packed 2 8 (λ (i : ℕ). tickAt w (p + i))
   two-bytes small = window-of-two _ _ (8 - p % 8) (p % 8) (omega arith) small ∙ sym eight
 
+-- ---- ten ticks in three bytes
+-- a bit of two numbers side by side, the upper one and the lower one of eight bits
+in-upper : (a b e : ℕ) → b < 256 → (a * 256 + b) / 2 ^ (8 + e) ≡ a / 2 ^ e
+in-upper a b e small = let top : (a * 256 + b) / 2 ^ 8 ≡ a = omega arith in sym (shr-shr (a * 256 + b) 8 e) ∙ rw top
+
+in-lower : (a b e : ℕ) → b < 256 → e < 8 → (a * 256 + b) / 2 ^ e % 2 ≡ b / 2 ^ e % 2
+in-lower a b e small h =
+    let eight : 7 - e + (1 + e) ≡ 8 = omega arith in
+    let rest : (a * 256 + b) % 2 ^ (7 - e + (1 + e)) ≡ b % 2 ^ (7 - e + (1 + e)) = rw eight (omega arith) in
+    sym (field (a * 256 + b) 1 e)
+    ∙ ap (λ x. x / 2 ^ e) (sym (mod-mod-pow (a * 256 + b) (7 - e) (1 + e)) ∙ ap (λ x. x % 2 ^ (1 + e)) rest ∙ mod-mod-pow b (7 - e) (1 + e))
+    ∙ field b 1 e
+
+module _ (first second third : ℕ) (small : second < 256) (small' : third < 256) where
+  abbrev three : ℕ
+  three = (first * 256 + second) * 256 + third
+
+  of-first : (e : ℕ) → three / 2 ^ (16 + e) % 2 ≡ first / 2 ^ e % 2
+  of-first e =
+      let sum : 16 + e ≡ 8 + (8 + e) = omega arith in
+      rw (sum, in-upper (first * 256 + second) third (8 + e) small', in-upper first second e small)
+
+  of-second : (e : ℕ) → e < 8 → three / 2 ^ (8 + e) % 2 ≡ second / 2 ^ e % 2
+  of-second e h = rw (in-upper (first * 256 + second) third e small') (in-lower first second e small h)
+
+  of-third : (e : ℕ) → e < 8 → three / 2 ^ e % 2 ≡ third / 2 ^ e % 2
+  of-third e h = in-lower (first * 256 + second) third e small' h
+
+pub three-bytes : (w : SampleWindow) (p first second third : ℕ)
+    → first ≡ byteAt (w .bytes) (w .len) (p / 8) 0 → second ≡ byteAt (w .bytes) (w .len) (p / 8 + 1) 0 → third ≡ byteAt (w .bytes) (w .len) (p / 8 + 2) 0
+    → second < 256 → third < 256
+    → ((first * 256 + second) * 256 + third) / 2 ^ (14 - p % 8) % 1024 ≡ packed 2 10 (λ (i : ℕ). tickAt w (p + i))
+three-bytes w p first second third e1 e2 e3 small small' =
+    sym
+    (packed-same 2 10 (λ i. tickAt w (p + i)) (λ i. three first second third small small' / 2 ^ (14 - p % 8 + (10 - 1 - i)) % 2) tick
+    ∙ packed-bits 10 (14 - p % 8) (three first second third small small'))
+  where
+    tick : (i : ℕ) → i < 10 → tickAt w (p + i) ≡ three first second third small small' / 2 ^ (14 - p % 8 + (10 - 1 - i)) % 2
+    tick i h = tick-is w (p + i) ∙ go (decLt (p % 8 + i) 8) (decLt (p % 8 + i) 16)
+      where
+        go : Dec (p % 8 + i < 8) → Dec (p % 8 + i < 16) → byteAt (w .bytes) (w .len) ((p + i) / 8) 0 / 2 ^ (7 - (p + i) % 8) % 2 ≡ three first second third small small' / 2 ^ (14 - p % 8 + (10 - 1 - i)) % 2
+        go (yes a) b =
+            let place : (p + i) / 8 ≡ p / 8 = omega arith in
+            let bit : 14 - p % 8 + (10 - 1 - i) ≡ 16 + (7 - (p + i) % 8) = omega arith in
+            rw (place, bit, ← e1) (sym (of-first first second third small small' (7 - (p + i) % 8)))
+        go (no a) (yes b) =
+            let place : (p + i) / 8 ≡ p / 8 + 1 = omega (arith, a) in
+            let bit : 14 - p % 8 + (10 - 1 - i) ≡ 8 + (7 - (p + i) % 8) = omega (arith, a) in
+            rw (place, bit, ← e2) (sym (of-second first second third small small' (7 - (p + i) % 8) (omega arith)))
+        go (no a) (no b) =
+            let place : (p + i) / 8 ≡ p / 8 + 2 = omega (arith, b) in
+            let bit : 14 - p % 8 + (10 - 1 - i) ≡ 7 - (p + i) % 8 = omega (arith, b) in
+            rw (place, bit, ← e3) (sym (of-third first second third small small' (7 - (p + i) % 8) (omega arith)))
+
+regrouped : (a b c x y : ℕ) → a * (x * y) + (b * y + c) ≡ (a * x + b) * y + c
+regrouped a b c x y = rw (add-mul (a * x) b y, mul-assoc a x y) (sym (add-assoc (a * (x * y)) (b * y) c))
+
+middle : (a b c r : ℕ) → b < 2 ^ 8 → c < 2 ^ r → (a * 2 ^ (8 + r) + (b * 2 ^ r + c)) / 2 ^ r % 256 ≡ b
+middle a b c r small small' =
+    ap (λ x. (a * x + (b * 2 ^ r + c)) / 2 ^ r % 256) (pow-add 2 8 r)
+    ∙ ap (λ x. x / 2 ^ r % 256) (regrouped a b c (2 ^ 8) (2 ^ r))
+    ∙ ap (λ x. x % 256) (high (a * 2 ^ 8 + b) r small')
+    ∙ low a 8 small
+
+-- eight of them, j ticks behind the first
+pub eight-of-ten : (j r : ℕ) (f : ℕ → ℕ) → j + (8 + r) ≡ 10 → ((i : ℕ) → f i < 2) → packed 2 10 f / 2 ^ r % 256 ≡ packed 2 8 (λ i. f (j + i))
+eight-of-ten j r f e small =
+    let later : packed 2 r (λ i. f (j + (8 + i))) < 2 ^ r = packed-lt 2 r (λ i. f (j + (8 + i))) (λ i h. small (j + (8 + i))) in
+    let these : packed 2 8 (λ i. f (j + i)) < 2 ^ 8 = packed-lt 2 8 (λ i. f (j + i)) (λ i h. small (j + i)) in
+    rw (← e, packed-add 2 j (8 + r) f, packed-add 2 8 r (λ i. f (j + i))) (middle (packed 2 j f) _ _ r these later)
+
 -- ---- peeks that begin before the start
 pub first-level : (w : SampleWindow) (b : ℕ) → b ≡ byteAt (w .bytes) (w .len) 0 255 → b < 256 → b / 128 ≡ pick (ltb 0 (w .len)) (tickAt w 0) 1
 unfolding byteAt tickAt
@@ -104,7 +175,7 @@ unfolding pick
 pick-lt true a b h k = h
 pick-lt false a b h k = k
 
-tick-lt : (w : SampleWindow) (p : ℕ) → tickAt w p < 2
+pub tick-lt : (w : SampleWindow) (p : ℕ) → tickAt w p < 2
 unfolding tickAt
 tick-lt w p = pick-lt (ltb (p / 8) (w .len)) _ _ (omega arith) (omega arith)
 

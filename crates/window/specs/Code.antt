@@ -2,22 +2,32 @@
 use Prim.Native.Nat.{ℕ, _+_, _-_, _*_, _/_, _%_, _^_, min}
 use mathlib.Core.List.{List}
 use lib.Dec.{ltb, eqb}
-use lib.IntN.{ℤ}
+use lib.IntN.{ℤ, subℕ}
 use lib.ListN.{length, getD}
 use Rattle.laws.specs.Packed.{packed}
 use Rattle.laws.specs.Pick.{pick}
 use Rattle.window.specs.declared.SampleWindow.{SampleWindow}
 use Rattle.window.specs.declared.PeekStop.{PeekStop}
 use Rattle.window.specs.declared.PeekStop.the-variants.{None, Idle, Held}
+use Rattle.window.specs.declared.BitPeeks.{BitPeeks}
 use Rattle.window.specs.declared.PeekAround.{PeekAround}
 use Rattle.window.specs.declared.Reading.{Reading}
 use Rattle.window.specs.declared.PhaseRead.{PhaseRead}
 use Rattle.window.specs.declared.PhaseRead.the-variants as read
+use Rattle.window.specs.Window.{windowWith, tickAt, peekAt}
 use Rattle.window.specs.Phase.{peekOf, weightAround, strideAround, PhaseBits, held, bits, scoreOf, storedBits, dataBit}
 
 -- a byte of the window, or another past the pad
 unfoldable pub byteAt : List ℕ → ℕ → ℕ → ℕ → ℕ
 byteAt bytes len k past = pick (ltb k len) (getD bytes k 0) past
+
+-- ten ticks from a position on as one number, the first on top
+unfoldable pub tenTicks : List ℕ → ℕ → ℕ → ℕ
+tenTicks bytes len p = packed 2 10 (λ (i : ℕ). tickAt (windowWith bytes len 0) (p + i))
+
+-- the peeks around a position that is counted from 128 ticks before the start
+unfoldable pub peeksOf : SampleWindow → ℕ → BitPeeks
+peeksOf w at = record { centre = peekAt w (subℕ at 128); early = peekAt w (subℕ (at - 1) 128); late = peekAt w (subℕ (at + 1) 128) }
 
 unfoldable pub stopOf : ℕ → PeekStop
 stopOf sample = pick (eqb sample 255) Idle (pick (eqb sample 0) Held None)

@@ -2,11 +2,11 @@
 ghost use mathlib.Core.Path.{_≡_};
 ghost use Prim.Native.Nat.{min, max, _+_, _-_, _^_, _≤_, _<_};
 ghost use lib.Dec.{ltb};
-ghost use lib.IntN.{pos, subℕ, _+ℤ_};
+ghost use lib.IntN.{subℕ};
 ghost use Rattle.laws.specs.Pick.{pick};
 ghost use Rattle.window.specs.Window.{windowWith, windowOf, emptyWindow, levelBefore, peekAt};
 ghost use Rattle.window.specs.Phase.{held, decodeOf, phaseOf, bitsOf, strideOf};
-ghost use Rattle.window.specs.Code.{byteAt, stopOf, aroundOf, summaryOf, storedOf, pushedOf, placedOf};
+ghost use Rattle.window.specs.Code.{byteAt, tenTicks, peeksOf, stopOf, aroundOf, summaryOf, storedOf, pushedOf, placedOf};
 
 // From source document 000 (fsm.rs), which stands above this crate.
 pub const DALI_RX_SAMPLE_BUF_LEN: usize = 64;
@@ -34,6 +34,13 @@ enum PeekStop {
     None,
     Idle,
     Held,
+}
+
+// The peeks by which a bit is weighed: where it is expected, a tick earlier and a tick later.
+struct BitPeeks {
+    centre: u8,
+    early: u8,
+    late: u8,
 }
 
 struct PeekAround {
@@ -175,24 +182,60 @@ impl SampleWindow {
         (((first * 256 + next) >> (8 - shifted % 8)) % 256) as u8
     }
 
-    // A bit's weight and how far on the next one lies. Whether the phase stops here is told by the late peek, and by no other.
-    fn weighted_peek_around(self, bitpos: u16, bias: u16) -> PeekAround
-        requires { ⌜ (1 ≤ bitpos) × (bitpos ≤ 600) × (bias ≤ 255) ⌝ }
-        ensures { λ r. ⌜ r ≡ aroundOf self (subℕ bias 128) bitpos ⌝ }
+    // Ten ticks, the first on top.
+    fn ten_ticks(bytes: &[u8; WINDOW_LEN], len: u16, bitpos: u16) -> u16
+        requires { ⌜ bitpos ≤ 1000 ⌝ }
+        ensures { λ r. ⌜ r ≡ tenTicks (now (bytes .entry)) len bitpos ⌝ }
     {
-        let at = bitpos + bias;
-        let len = self.len;
-        let bits = self.bits;
-        let centre = SampleWindow::peek8(&self.bytes, len, bits, at);
-        let early = SampleWindow::peek8(&self.bytes, len, bits, at - 1);
-        let late = SampleWindow::peek8(&self.bytes, len, bits, at + 1);
-        let centre_weight = weight::sample_weight(centre);
-        let early_weight = weight::sample_weight(early);
-        let late_weight = weight::sample_weight(late);
+        let pos = bitpos / 8;
+        let first = SampleWindow::byte(bytes, len, pos, 0) as u32;
+        let second = SampleWindow::byte(bytes, len, pos + 1, 0) as u32;
+        let third = SampleWindow::byte(bytes, len, pos + 2, 0) as u32;
+        let ticks = first * 65_536 + second * 256 + third;
+        ((ticks >> (14 - bitpos % 8)) % 1024) as u16
+    }
+
+    // Where all three peeks begin within the capture or its pad, they are parts of the same ten ticks, which are read at once.
+    fn peeks_around(bytes: &[u8; WINDOW_LEN], len: u16, bits: u16, at: u16) -> BitPeeks
+        requires { ⌜ (1 ≤ at) × (at ≤ 900) ⌝ }
+        ensures { λ r. ⌜ r ≡ peeksOf (windowWith (now (bytes .entry)) len bits) at ⌝ }
+    {
+        if EARLIEST < at {
+            if (at + 1 - EARLIEST) / 8 < len {
+                let ticks = SampleWindow::ten_ticks(bytes, len, at - 1 - EARLIEST);
+                return BitPeeks {
+                    centre: (ticks / 2 % 256) as u8,
+                    early: (ticks / 4 % 256) as u8,
+                    late: (ticks % 256) as u8,
+                };
+            }
+        }
+        BitPeeks {
+            centre: SampleWindow::peek8(bytes, len, bits, at),
+            early: SampleWindow::peek8(bytes, len, bits, at - 1),
+            late: SampleWindow::peek8(bytes, len, bits, at + 1),
+        }
+    }
+
+    // A bit's weight and how far on the next one lies. Whether the phase stops here is told by the late peek, and by no other.
+    fn weighted_peek_around(
+        bytes: &[u8; WINDOW_LEN],
+        len: u16,
+        bits: u16,
+        bitpos: u16,
+        bias: u16,
+    ) -> PeekAround
+        requires { ⌜ (1 ≤ bitpos) × (bitpos ≤ 600) × (bias ≤ 255) ⌝ }
+        ensures { λ r. ⌜ r ≡ aroundOf (windowWith (now (bytes .entry)) len bits) (subℕ bias 128) bitpos ⌝ }
+    {
+        let peeks = SampleWindow::peeks_around(bytes, len, bits, bitpos + bias);
+        let centre = weight::sample_weight(peeks.centre);
+        let early = weight::sample_weight(peeks.early);
+        let late = weight::sample_weight(peeks.late);
         PeekAround {
-            weightmax: larger(larger(centre_weight, early_weight), late_weight),
-            pmax: stride(centre_weight, early_weight, late_weight),
-            stop: stop_of(late),
+            weightmax: larger(larger(centre, early), late),
+            pmax: stride(centre, early, late),
+            stop: stop_of(peeks.late),
         }
     }
 
@@ -209,7 +252,13 @@ impl SampleWindow {
             if max_out_bits < bit_len {
                 break;
             }
-            let around = self.weighted_peek_around(bitpos, bias);
+            let around = SampleWindow::weighted_peek_around(
+                &self.bytes,
+                self.len,
+                self.bits,
+                bitpos,
+                bias,
+            );
             let stop = around.stop;
             match stop {
                 PeekStop::Idle => break,

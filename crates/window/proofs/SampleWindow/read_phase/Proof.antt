@@ -14,7 +14,7 @@ use Rattle.window.proofs.SampleWindow.read_phase.Statement.{statement}
 use Rattle.window.proofs.SampleWindow.read_phase.Tie as tie
 
 abbrev Inv-loop : tie.InvT-loop
-Inv-loop self max-out-bits bias bits bit-len₀ score₀ value₀ bitpos₀ bit-len score value bitpos = (bits ≡ min (self .bits) 512)
+Inv-loop max-out-bits bias self bits bit-len₀ score₀ value₀ bitpos₀ bit-len score value bitpos = (bits ≡ min (self .bits) 512)
     × (bias ≤ 255)
     × (1 + 7 * bit-len ≤ bitpos)
     × (bitpos ≤ 520)
@@ -23,7 +23,7 @@ Inv-loop self max-out-bits bias bits bit-len₀ score₀ value₀ bitpos₀ bit-
     × (joined bit-len score value (bitsFrom (73 - bit-len) self max-out-bits (subℕ bias 128) bitpos bit-len) ≡ summaryOf (bitsOf self max-out-bits (subℕ bias 128)))
 
 abbrev μ-loop : tie.MeasureT-loop
-μ-loop self max-out-bits bias bits bit-len₀ score₀ value₀ bitpos₀ bit-len score value bitpos = 520 - bitpos
+μ-loop max-out-bits bias self bits bit-len₀ score₀ value₀ bitpos₀ bit-len score value bitpos = 520 - bitpos
 
 sample-bits-requires : tie.Need-sample-bits-requires Inv-loop μ-loop
 sample-bits-requires c κs = search needs
@@ -45,7 +45,7 @@ enum-told-2 : tie.Need-enum-told-2 Inv-loop μ-loop
 enum-told-2 c = search needs
 
 returns : tie.Need-returns Inv-loop μ-loop
-returns c = turned _ _ _ _ _ _ _ _ _ Held _ (c .before .before .before .before .before .loop .inv .2) (c .before .before .weighted-peek-around .ensures) (c .enum-told2 .given .1) (c .before .before .before .before .before .loop .inv .0) (c .before .before .before .before .loop-test .taken) (c .before .before .before .if1 .left) (c .before .before .before .before .before .loop .inv .6)
+returns c = turned _ _ _ _ _ _ _ _ _ Held _ (c .before .before .before .before .before .before .before .loop .inv .2) (c .before .before .weighted-peek-around .ensures) (c .enum-told2 .given .1) (c .before .before .before .before .before .before .before .loop .inv .0) (c .before .before .before .before .before .before .loop-test .taken) (c .before .before .before .before .before .if1 .left) (c .before .before .before .before .before .before .before .loop .inv .6)
 
 enum-told-3 : tie.Need-enum-told-3 Inv-loop μ-loop
 enum-told-3 c = search needs
@@ -76,8 +76,8 @@ loop-again c = let m = pmax-bounds _ _ _ _ (c .before .before .before .before .b
       omega arith,
       omega arith,
       omega (arith, c),
-      rw p (pushed-lt _ _ _ (c .before .before .before .before .before .before .before .before .loop .inv .5)),
-      rw p (turned _ _ _ _ _ _ _ _ _ None _ (c .before .before .before .before .before .before .before .before .loop .inv .2) (c .before .before .before .before .before .weighted-peek-around .ensures) (c .before .before .before .enum-told3 .given .1) (c .before .before .before .before .before .before .before .before .loop .inv .0) (c .before .before .before .before .before .before .before .loop-test .taken) (c .before .before .before .before .before .before .if1 .left) (c .before .before .before .before .before .before .before .before .loop .inv .6)),
+      rw p (pushed-lt _ _ _ (c .before .before .before .before .before .before .before .before .before .before .loop .inv .5)),
+      rw p (turned _ _ _ _ _ _ _ _ _ None _ (c .before .before .before .before .before .before .before .before .before .before .loop .inv .2) (c .before .before .before .before .before .weighted-peek-around .ensures) (c .before .before .before .enum-told3 .given .1) (c .before .before .before .before .before .before .before .before .before .before .loop .inv .0) (c .before .before .before .before .before .before .before .before .before .loop-test .taken) (c .before .before .before .before .before .before .before .before .if1 .left) (c .before .before .before .before .before .before .before .before .before .before .loop .inv .6)),
     )
 
 returns-2 : tie.Need-returns-2 Inv-loop μ-loop
@@ -87,7 +87,7 @@ returns-3 : tie.Need-returns-3 Inv-loop μ-loop
 returns-3 c = sym (joined-none _ _ _) ∙ ap (joined _ _ _) (sym (at-most _ _ _ _ _ _ (omega arith) (c .if1 .taken))) ∙ c .before .before .loop .inv .6
 
 returns-4 : tie.Need-returns-4 Inv-loop μ-loop
-returns-4 c = turned _ _ _ _ _ _ _ _ _ Idle _ (c .before .before .before .before .before .loop .inv .2) (c .before .before .weighted-peek-around .ensures) (c .enum-told .given .1) (c .before .before .before .before .before .loop .inv .0) (c .before .before .before .before .loop-test .taken) (c .before .before .before .if1 .left) (c .before .before .before .before .before .loop .inv .6)
+returns-4 c = turned _ _ _ _ _ _ _ _ _ Idle _ (c .before .before .before .before .before .before .before .loop .inv .2) (c .before .before .weighted-peek-around .ensures) (c .enum-told .given .1) (c .before .before .before .before .before .before .before .loop .inv .0) (c .before .before .before .before .before .before .loop-test .taken) (c .before .before .before .before .before .if1 .left) (c .before .before .before .before .before .before .before .loop .inv .6)
 
 pub read-phase-spec : {M : Type 1} → statement M
 read-phase-spec =
