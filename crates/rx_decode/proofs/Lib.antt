@@ -1,0 +1,5 @@
+pub mod Longest
+pub mod Runs
+pub mod Shown
+pub mod Sole
+pub mod Telling

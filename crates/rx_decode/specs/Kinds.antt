@@ -1,0 +1,34 @@
+-- Document 01, "Reading": each kind of answer with its number of bits and its bytes. Assumes nothing.
+use Prim.Native.Nat.{ℕ, _/_, _%_}
+use mathlib.Core.List.{List, [], _∷_}
+use mathlib.Core.Path.{_≡_}
+use Rattle.laws.specs.Tabulate.{tabulate}
+use Rattle.window.specs.declared.PhaseDecode.{PhaseDecode}
+use Rattle.search.specs.declared.Found.{Found}
+use Rattle.search.specs.declared.Found.the-variants.{Decode, Nothing}
+use Rattle.rx_decode.specs.declared.SniffedFrame.{SniffedFrame}
+use Rattle.rx_decode.specs.declared.SniffedFrame.the-variants.{Forward16, Backward8, Forward24, UnsupportedLength, DecodeFailed}
+use Rattle.rx_decode.specs.declared.BackwardByte.{BackwardByte}
+use Rattle.rx_decode.specs.declared.BackwardByte.the-variants.{Byte, NoByte}
+use Rattle.rx_decode.specs.Reading.{byteOf}
+
+-- a decode of so many bits was found, and of its bytes these are the first
+unfoldable pub IsFrame : ℕ → List ℕ → Found → Type 0
+IsFrame bits bytes found = (d : PhaseDecode) × (found ≡ Decode d) × (d .«bit_len» ≡ bits) × (tabulate (bits / 8) (byteOf (d .«data»)) ≡ bytes)
+
+-- a decode of so many bits was found, and it is none of the three frames
+unfoldable pub IsOther : ℕ → Found → Type 0
+IsOther bits found = (d : PhaseDecode) × (found ≡ Decode d) × (d .«bit_len» ≡ bits) × (bits ≡ 8 → ⊥) × (bits ≡ 16 → ⊥) × (bits ≡ 24 → ⊥)
+
+-- what each kind says of the decode that it was read from
+unfoldable pub Says : SniffedFrame → Found → Type 0
+Says (Backward8 byte) found = IsFrame 8 (byte ∷ []) found
+Says (Forward16 word) found = IsFrame 16 (word / 256 ∷ word % 256 ∷ []) found
+Says (Forward24 first second third) found = IsFrame 24 (first ∷ second ∷ third ∷ []) found
+Says (UnsupportedLength bits) found = IsOther bits found
+Says DecodeFailed found = found ≡ Nothing
+
+-- and what a backward byte says, or that there is none
+unfoldable pub SaysByte : BackwardByte → Found → Type 0
+SaysByte (Byte byte) found = IsFrame 8 (byte ∷ []) found
+SaysByte NoByte found = (byte : ℕ) → IsFrame 8 (byte ∷ []) found → ⊥

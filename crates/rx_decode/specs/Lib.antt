@@ -1,0 +1,4 @@
+pub mod Code
+pub mod Kinds
+pub mod LowRun
+pub mod Reading
