@@ -1,15 +1,17 @@
 //! The protocol answered over the unchanged Rust.
 
 use crate::command::{
-    push_byte_string_field, push_hex_field, push_number, push_number_field, Capture, Command, Rank,
+    push_byte_string_field, push_decode, push_hex_field, push_number, push_number_field, Capture,
+    Command, Rank,
 };
 use crate::fsm::{
     restart_gate_for, settle_ticks_on_wire, BusState, RxCompletedEvent, RxState, TxPollResult,
 };
 use crate::manchester::{
-    is_better_decode, sample_weight, BestPhaseSearch, BitLengths, PhaseDecode, PhaseSearch,
-    SampleWindow, DECODED_BYTES,
+    is_better_decode, sample_weight, BestPhaseSearch, BitLengths, IsrDecode, PhaseDecode,
+    PhaseSearch, SampleWindow, DECODED_BYTES,
 };
+use crate::original::rx_decode::{RxDecode, SniffedDecode, SniffedFrame};
 use crate::station::{Refusal, Station};
 
 const BAD_LINE: &[u8] = b"?";
@@ -82,6 +84,24 @@ impl Session {
             }
             Command::Lengths { bytes, n } => {
                 push_number(out, i32::from(BitLengths::of(bytes).contains(*n)));
+            }
+            Command::Sniff { capture } => push_sniffed(out, &sniffed(&event(capture))),
+            Command::SniffDec { found } => {
+                push_sniffed(out, &sniffed(&empty_event_that_holds(*found)));
+            }
+            Command::Backward { capture } => match event(capture).decode_backward_byte() {
+                None => out.extend_from_slice(b"none"),
+                Some(byte) => {
+                    out.extend_from_slice(b"byte");
+                    push_hex_field(out, &[byte]);
+                }
+            },
+            Command::LowRun { capture } => {
+                let ticks = event(capture).longest_dominant_run_ticks();
+                push_number(out, i32::from(ticks));
+            }
+            Command::Held { capture } => {
+                push_number(out, i32::from(event(capture).is_line_held()));
             }
             Command::New => {
                 self.station = Station::new();
@@ -170,23 +190,39 @@ fn lengths(mask: u32) -> BitLengths {
 }
 
 fn ranked(rank: &Rank) -> PhaseDecode {
-    PhaseDecode {
-        bit_len: rank.len,
-        phase_ticks: rank.phase,
-        score: rank.score,
-        data: [0; DECODED_BYTES],
+    rank.with_data([0; DECODED_BYTES])
+}
+
+/// An event with this capture, and no search made of it yet.
+fn event(capture: &Capture) -> RxCompletedEvent {
+    RxCompletedEvent {
+        samples: capture.samples,
+        sample_count: capture.count,
+        ..RxCompletedEvent::new()
     }
+}
+
+fn empty_event_that_holds(found: Option<PhaseDecode>) -> RxCompletedEvent {
+    RxCompletedEvent {
+        isr_decode: IsrDecode::Decoded(found),
+        ..RxCompletedEvent::new()
+    }
+}
+
+/// The Rust has two calls for a sniffed reading. Were they to part, neither frame could stand for the
+/// Rust's answer, so the run ends there.
+fn sniffed(event: &RxCompletedEvent) -> SniffedDecode {
+    let decode = event.decode_sniffed_with_phase();
+    let frame = event.decode_sniffed();
+    assert_eq!(
+        frame, decode.frame,
+        "the Rust's two calls for a sniffed reading gave different frames"
+    );
+    decode
 }
 
 fn push_ok(out: &mut Vec<u8>) {
     out.extend_from_slice(b"ok");
-}
-
-fn push_decode(out: &mut Vec<u8>, decode: &PhaseDecode) {
-    push_number_field(out, i32::from(decode.bit_len));
-    push_number_field(out, i32::from(decode.phase_ticks));
-    push_number_field(out, i32::from(decode.score));
-    push_hex_field(out, &decode.data);
 }
 
 fn push_run(out: &mut Vec<u8>, (found, steps): (Option<PhaseDecode>, u8)) {
@@ -212,6 +248,26 @@ fn push_steps(out: &mut Vec<u8>, mask: u32, k: u8, window: &SampleWindow) {
             PhaseSearch::Done(Some(decode)) => push_decode(out, &decode),
         }
     }
+}
+
+fn push_sniffed(out: &mut Vec<u8>, decode: &SniffedDecode) {
+    match decode.frame {
+        SniffedFrame::Backward8(byte) => push_frame(out, b"B8", &[byte]),
+        SniffedFrame::Forward16(word) => push_frame(out, b"F16", &word.to_be_bytes()),
+        SniffedFrame::Forward24(bytes) => push_frame(out, b"F24", &bytes),
+        SniffedFrame::UnsupportedLength(length) => {
+            out.extend_from_slice(b"LEN");
+            push_number_field(out, i32::from(length));
+        }
+        SniffedFrame::DecodeFailed => push_frame(out, b"FAIL", &[]),
+    }
+    push_number_field(out, i32::from(decode.phase_ticks));
+    push_number_field(out, i32::from(decode.score));
+}
+
+fn push_frame(out: &mut Vec<u8>, word: &[u8], bytes: &[u8]) {
+    out.extend_from_slice(word);
+    push_byte_string_field(out, bytes);
 }
 
 fn push_start(out: &mut Vec<u8>, refusal: Option<Refusal>) {

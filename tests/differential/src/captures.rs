@@ -1,10 +1,12 @@
 //! Captures as stations make them, and as they never should: waves of frames, exact and damaged, and
 //! bytes that are no wave at all.
 
+use std::ops::Range;
+
 use crate::command::{Capture, SAMPLES};
 use crate::random::Random;
 
-const TICKS: usize = 8 * SAMPLES;
+pub const TICKS: usize = 8 * SAMPLES;
 const HALF_BIT_TICKS: u8 = 4;
 /// A station ends a capture on this many high ticks running.
 const IDLE_TICKS: usize = 16;
@@ -14,8 +16,8 @@ const USUAL_BYTES: [u8; 16] = [
 ];
 
 pub fn any_capture(random: &mut Random) -> Capture {
-    let mut capture = match random.below(20) {
-        0..=13 => wave_capture(random),
+    let capture = match random.below(20) {
+        0..=13 => wave_capture(&frame_bits(random), random),
         14 => any_runs(random),
         15 => usual_bytes(random),
         16 => one_byte_throughout(random),
@@ -23,11 +25,45 @@ pub fn any_capture(random: &mut Random) -> Capture {
         18 => full_capture(random),
         _ => any_bytes(random),
     };
-    if random.one_in(3) {
-        capture.count = any_count(random, capture.count);
+    recounted(capture, random)
+}
+
+/// What may come where an answer is awaited: mostly 8 bits, and lengths that are taken for them or
+/// must not be.
+pub fn answer_capture(random: &mut Random) -> Capture {
+    let length = match random.below(10) {
+        0..=5 => 8,
+        6 => random.pick(&[7, 9, 9]),
+        7 => 16,
+        8 => return eight_bits_in_a_longer_frame(random),
+        _ => return any_capture(random),
+    };
+    let bits = bits_of_length(length, random);
+    recounted(wave_capture(&bits, random), random)
+}
+
+/// Captures whose longest low run is about a held line's, or about all of the capture, from any tick of
+/// a byte on.
+pub fn low_run_capture(random: &mut Random) -> Capture {
+    match random.below(8) {
+        0..=2 => low_runs_alike(random),
+        3 | 4 => low_run_at_the_end(random),
+        5 => low_throughout(random),
+        6 => low_almost_throughout(random),
+        _ => any_capture(random),
     }
-    fill_past_count(&mut capture, random);
-    capture
+}
+
+/// A capture that is low in these stretches of ticks, and high elsewhere.
+pub fn low_capture(count: u16, stretches: &[Range<usize>]) -> Capture {
+    let mut words = HIGH_THROUGHOUT;
+    for stretch in stretches {
+        pull_low(&mut words, stretch.start, stretch.end);
+    }
+    Capture {
+        count,
+        samples: samples_of(&words),
+    }
 }
 
 /// The capture that an idle station makes of a frame's exact wave.
@@ -82,6 +118,17 @@ impl Runs {
             _ => self.ticks.push(ticks),
         }
     }
+
+    /// The place of the run that this tick is in.
+    fn place_of(&self, tick: usize) -> usize {
+        let mut end = 0;
+        let runs = self.ticks.iter();
+        runs.take_while(|run| {
+            end += usize::from(**run);
+            end <= tick
+        })
+        .count()
+    }
 }
 
 fn push_frame(
@@ -105,7 +152,7 @@ struct Wave {
 
 impl Wave {
     fn of(high_ticks_before: usize, runs: &Runs) -> Self {
-        let mut words = [u64::MAX; TICKS / 64];
+        let mut words = HIGH_THROUGHOUT;
         let mut at = high_ticks_before;
         let mut last_low_end = 0;
         for (number, run) in runs.ticks.iter().enumerate() {
@@ -116,12 +163,8 @@ impl Wave {
             }
             at = end;
         }
-        let mut samples = [0; SAMPLES];
-        for (eight, word) in samples.chunks_exact_mut(8).zip(words) {
-            eight.copy_from_slice(&word.to_be_bytes());
-        }
         Self {
-            samples,
+            samples: samples_of(&words),
             last_low_end,
         }
     }
@@ -136,8 +179,21 @@ impl Wave {
     }
 }
 
-/// Clears the ticks from `from` to before `to`; the first tick is the first word's top bit.
-fn pull_low(words: &mut [u64; TICKS / 64], from: usize, to: usize) {
+/// The levels of as many ticks as a capture has room for; the first is the first word's top bit.
+type Words = [u64; TICKS / 64];
+
+const HIGH_THROUGHOUT: Words = [u64::MAX; TICKS / 64];
+
+fn samples_of(words: &Words) -> [u8; SAMPLES] {
+    let mut samples = [0; SAMPLES];
+    for (eight, word) in samples.chunks_exact_mut(8).zip(words) {
+        eight.copy_from_slice(&word.to_be_bytes());
+    }
+    samples
+}
+
+/// Clears the ticks from `from` to before `to`.
+fn pull_low(words: &mut Words, from: usize, to: usize) {
     let mut at = from;
     while at < to {
         let end = to.min((at / 64 + 1) * 64);
@@ -149,7 +205,7 @@ fn pull_low(words: &mut [u64; TICKS / 64], from: usize, to: usize) {
 
 /// The runs of a frame's wave in ticks, low first and then by turns: exact, or bent.
 pub fn any_wave(random: &mut Random) -> Vec<u8> {
-    bent_frame_runs(random).ticks
+    bent_frame_runs(&frame_bits(random), random).ticks
 }
 
 /// The runs of a frame's exact wave, low first and then by turns.
@@ -159,8 +215,8 @@ pub fn exact_wave(bits: &[bool]) -> Vec<u8> {
     runs.ticks
 }
 
-fn bent_frame_runs(random: &mut Random) -> Runs {
-    let mut runs = frame_runs(random);
+fn bent_frame_runs(bits: &[bool], random: &mut Random) -> Runs {
+    let mut runs = frame_runs(bits, random);
     match random.below(6) {
         0 => one_run_off_by_one(&mut runs, random),
         1 => all_runs_jittered(&mut runs, random),
@@ -170,8 +226,8 @@ fn bent_frame_runs(random: &mut Random) -> Runs {
     runs
 }
 
-fn wave_capture(random: &mut Random) -> Capture {
-    let mut runs = bent_frame_runs(random);
+fn wave_capture(bits: &[bool], random: &mut Random) -> Capture {
+    let mut runs = bent_frame_runs(bits, random);
     let before = if random.one_in(5) {
         shifted_start(&mut runs, random)
     } else {
@@ -184,16 +240,15 @@ fn wave_capture(random: &mut Random) -> Capture {
     capture
 }
 
-fn frame_runs(random: &mut Random) -> Runs {
+fn frame_runs(bits: &[bool], random: &mut Random) -> Runs {
     let mut runs = Runs::new();
-    let bits = frame_bits(random);
     let halves = match random.below(8) {
         0 => bit_of_seven_ticks,
         1 => bit_of_nine_ticks,
         2 => bit_of_seven_to_nine_ticks,
         _ => bit_of_eight_ticks,
     };
-    push_frame(&mut runs, &bits, halves, random);
+    push_frame(&mut runs, bits, halves, random);
     runs
 }
 
@@ -205,6 +260,10 @@ fn frame_bits(random: &mut Random) -> Vec<bool> {
         8 => random.below(36),
         _ => random.below(81),
     };
+    bits_of_length(length, random)
+}
+
+fn bits_of_length(length: usize, random: &mut Random) -> Vec<bool> {
     let mut source = match random.below(6) {
         0 => 0,
         1 => u128::MAX,
@@ -285,8 +344,21 @@ fn damage_ticks(samples: &mut [u8; SAMPLES], random: &mut Random) {
     }
 }
 
+/// A forward frame at phase 0 of which another phase often reads 8 bits, since the ninth is a tick too long.
+fn eight_bits_in_a_longer_frame(random: &mut Random) -> Capture {
+    let length = random.pick(&[16, 24]);
+    let mut bits = bits_of_length(length, random);
+    bits[8] = true;
+    bits[9] = false;
+    let mut runs = Runs::new();
+    push_frame(&mut runs, &bits, bit_of_eight_ticks, random);
+    let half = runs.place_of(random.pick(&[9 * 8, 9 * 8 + 4]));
+    runs.ticks[half] += 1;
+    recounted(Wave::of(0, &runs).captured(), random)
+}
+
 fn two_frames(random: &mut Random) -> Capture {
-    let mut runs = frame_runs(random);
+    let mut runs = frame_runs(&frame_bits(random), random);
     runs.push(true, random.between(1, 20) as u8);
     let second = frame_bits(random);
     push_frame(&mut runs, &second, bit_of_eight_ticks, random);
@@ -340,6 +412,54 @@ fn any_bytes(random: &mut Random) -> Capture {
     }
     let count = random.between(0, 64) as u16;
     Capture { count, samples }
+}
+
+/// Low runs of the same number of ticks, or nearly, with little between them.
+fn low_runs_alike(random: &mut Random) -> Capture {
+    let mut runs = Runs::new();
+    let usual = match random.below(4) {
+        0 => random.between(1, 80),
+        _ => random.between(22, 26),
+    };
+    for _ in 0..random.between(1, 8) {
+        runs.push(false, (usual + random.between(-1, 1)) as u8);
+        runs.push(true, random.between(1, 12) as u8);
+    }
+    let wave = Wave::of(random.below(24), &runs);
+    recounted(wave.captured(), random)
+}
+
+/// A low run that goes on to the last tick that counts, and often past it.
+fn low_run_at_the_end(random: &mut Random) -> Capture {
+    let count = random.between(1, 64) as usize;
+    let end = 8 * count;
+    let from = end.saturating_sub(random.between(20, 28) as usize);
+    let past = random.pick(&[0, 0, 1, 2, 8, 25]);
+    let early = 0..random.below(from.min(26) + 1);
+    low_capture(count as u16, &[early, from..TICKS.min(end + past)])
+}
+
+fn low_throughout(random: &mut Random) -> Capture {
+    Capture {
+        count: any_count(random, SAMPLES as u16),
+        samples: [0; SAMPLES],
+    }
+}
+
+fn low_almost_throughout(random: &mut Random) -> Capture {
+    let ticks = random.between(488, TICKS as i32) as usize;
+    let from = random.below(TICKS - ticks + 1);
+    let count = random.pick(&[61, 62, 63, 64, 64, 64, 65, 66, 256, 65535]);
+    low_capture(count, &[from..from + ticks])
+}
+
+/// Now and then with another count than a station gives, and with something past it.
+fn recounted(mut capture: Capture, random: &mut Random) -> Capture {
+    if random.one_in(3) {
+        capture.count = any_count(random, capture.count);
+    }
+    fill_past_count(&mut capture, random);
+    capture
 }
 
 fn any_count(random: &mut Random, natural: u16) -> u16 {

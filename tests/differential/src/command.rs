@@ -2,6 +2,7 @@
 
 use crate::fsm::CollisionPolicy;
 use crate::levels::Levels;
+use crate::manchester::{PhaseDecode, DECODED_BYTES};
 use crate::station::{HalfBits, Start};
 
 pub const LONGEST_LINE: usize = 2047;
@@ -14,7 +15,7 @@ pub struct Capture {
     pub samples: [u8; SAMPLES],
 }
 
-/// What `better` is told of a decode.
+/// What `better` is told of a decode, and `sniffdec` besides the data.
 #[derive(Clone, Copy, PartialEq, Eq)]
 pub struct Rank {
     pub len: u8,
@@ -22,7 +23,18 @@ pub struct Rank {
     pub score: u16,
 }
 
-// The commands of the reading and of the bench line join here when they are ported.
+impl Rank {
+    pub fn with_data(&self, data: [u8; DECODED_BYTES]) -> PhaseDecode {
+        PhaseDecode {
+            bit_len: self.len,
+            phase_ticks: self.phase,
+            score: self.score,
+            data,
+        }
+    }
+}
+
+// The commands of the bench line join here when they are ported.
 #[derive(Clone, PartialEq, Eq)]
 pub enum Command {
     Weight {
@@ -60,6 +72,21 @@ pub enum Command {
         bytes: Vec<u8>,
         n: u8,
     },
+    Sniff {
+        capture: Capture,
+    },
+    SniffDec {
+        found: Option<PhaseDecode>,
+    },
+    Backward {
+        capture: Capture,
+    },
+    LowRun {
+        capture: Capture,
+    },
+    Held {
+        capture: Capture,
+    },
     New,
     Policy {
         policy: CollisionPolicy,
@@ -88,7 +115,7 @@ pub enum Command {
     },
 }
 
-pub const NAMES: [&str; 22] = [
+pub const NAMES: [&str; 27] = [
     "weight",
     "phase",
     "search",
@@ -98,6 +125,11 @@ pub const NAMES: [&str; 22] = [
     "bsrun",
     "better",
     "lengths",
+    "sniff",
+    "sniffdec",
+    "backward",
+    "lowrun",
+    "held",
     "new",
     "policy",
     "tick",
@@ -113,8 +145,14 @@ pub const NAMES: [&str; 22] = [
     "gate",
 ];
 
+/// The names of the reading commands are those from this one to before the station's.
+const FIRST_READING: usize = 9;
 /// The names of the station's commands are those from this one on.
-const FIRST_OF_STATION: usize = 9;
+const FIRST_OF_STATION: usize = 14;
+
+pub fn is_reading(number: usize) -> bool {
+    (FIRST_READING..FIRST_OF_STATION).contains(&number)
+}
 
 pub fn is_of_station(number: usize) -> bool {
     number >= FIRST_OF_STATION
@@ -133,21 +171,26 @@ impl Command {
             Command::BsRun { .. } => 6,
             Command::Better { .. } => 7,
             Command::Lengths { .. } => 8,
-            Command::New => 9,
-            Command::Policy { .. } => 10,
-            Command::Tick { .. } => 11,
-            Command::Ticks { .. } => 12,
+            Command::Sniff { .. } => 9,
+            Command::SniffDec { .. } => 10,
+            Command::Backward { .. } => 11,
+            Command::LowRun { .. } => 12,
+            Command::Held { .. } => 13,
+            Command::New => 14,
+            Command::Policy { .. } => 15,
+            Command::Tick { .. } => 16,
+            Command::Ticks { .. } => 17,
             Command::Start { start, .. } => match start {
-                Start::Tx => 13,
-                Start::Answer => 14,
+                Start::Tx => 18,
+                Start::Answer => 19,
             },
-            Command::Poll => 15,
-            Command::TakeIdle => 16,
-            Command::TakeRx => 17,
-            Command::Ack => 18,
-            Command::State => 19,
-            Command::Settle { .. } => 20,
-            Command::Gate { .. } => 21,
+            Command::Poll => 20,
+            Command::TakeIdle => 21,
+            Command::TakeRx => 22,
+            Command::Ack => 23,
+            Command::State => 24,
+            Command::Settle { .. } => 25,
+            Command::Gate { .. } => 26,
         }
     }
 
@@ -205,6 +248,21 @@ impl Command {
             b"lengths" => Command::Lengths {
                 bytes: fields.byte_string()?,
                 n: fields.u8()?,
+            },
+            b"sniff" => Command::Sniff {
+                capture: fields.capture()?,
+            },
+            b"sniffdec" => Command::SniffDec {
+                found: fields.found()?,
+            },
+            b"backward" => Command::Backward {
+                capture: fields.capture()?,
+            },
+            b"lowrun" => Command::LowRun {
+                capture: fields.capture()?,
+            },
+            b"held" => Command::Held {
+                capture: fields.capture()?,
             },
             b"new" => Command::New,
             b"policy" => Command::Policy {
@@ -267,7 +325,12 @@ impl Command {
                 push_capture(out, capture);
             }
             Command::BsNew { mask } => push_hex_field(out, &mask.to_be_bytes()),
-            Command::BsStep { capture } | Command::BsRun { capture } => push_capture(out, capture),
+            Command::BsStep { capture }
+            | Command::BsRun { capture }
+            | Command::Sniff { capture }
+            | Command::Backward { capture }
+            | Command::LowRun { capture }
+            | Command::Held { capture } => push_capture(out, capture),
             Command::Better {
                 mask,
                 candidate,
@@ -281,6 +344,13 @@ impl Command {
                 push_byte_string_field(out, bytes);
                 push_number_field(out, i32::from(*n));
             }
+            Command::SniffDec { found: None } => {
+                out.push(b' ');
+                out.extend_from_slice(FOUND_NONE);
+            }
+            Command::SniffDec {
+                found: Some(decode),
+            } => push_decode(out, decode),
             Command::Policy { policy } => {
                 out.push(b' ');
                 out.extend_from_slice(policy_word(*policy));
@@ -314,6 +384,9 @@ impl Command {
         line
     }
 }
+
+/// What stands for the decode of a search that found nothing.
+const FOUND_NONE: &[u8] = b"none";
 
 fn policy_word(policy: CollisionPolicy) -> &'static [u8] {
     match policy {
@@ -390,6 +463,15 @@ impl<'a> Fields<'a> {
             phase: self.i8()?,
             score: self.u16()?,
         })
+    }
+
+    fn found(&mut self) -> Option<Option<PhaseDecode>> {
+        if self.rest == Some(FOUND_NONE) {
+            self.rest = None;
+            return Some(None);
+        }
+        let rank = self.rank()?;
+        Some(Some(rank.with_data(self.bytes()?)))
     }
 
     fn byte_string(&mut self) -> Option<Vec<u8>> {
@@ -525,4 +607,11 @@ fn push_rank(out: &mut Vec<u8>, rank: &Rank) {
     push_number_field(out, i32::from(rank.len));
     push_number_field(out, i32::from(rank.phase));
     push_number_field(out, i32::from(rank.score));
+}
+
+pub fn push_decode(out: &mut Vec<u8>, decode: &PhaseDecode) {
+    push_number_field(out, i32::from(decode.bit_len));
+    push_number_field(out, i32::from(decode.phase_ticks));
+    push_number_field(out, i32::from(decode.score));
+    push_hex_field(out, &decode.data);
 }

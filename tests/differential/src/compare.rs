@@ -6,7 +6,7 @@ use std::sync::Arc;
 use std::thread::{self, JoinHandle};
 
 use crate::answer::Session;
-use crate::command::{is_of_station, Command, NAMES};
+use crate::command::{is_of_station, is_reading, Command, NAMES};
 use crate::generate::{Generator, Kind};
 use crate::shrink;
 
@@ -313,9 +313,9 @@ impl Tally {
             .sum()
     }
 
-    fn of_station(&self) -> usize {
+    fn of(&self, is_counted: fn(usize) -> bool) -> usize {
         (0..NAMES.len())
-            .filter(|number| is_of_station(*number))
+            .filter(|number| is_counted(*number))
             .map(|number| self.counts[number])
             .sum()
     }
@@ -328,10 +328,11 @@ impl Tally {
             }
         }
         text.push_str(&format!(
-            "bad {}), {} decode_phase answers, {} station commands and {} ticks among them",
+            "bad {}), {} decode_phase answers, {} reading commands, {} station commands and {} ticks among them",
             self.bad_lines(),
             self.named("phase"),
-            self.of_station(),
+            self.of(is_reading),
+            self.of(is_of_station),
             self.ticks
         ));
         text

@@ -2,10 +2,12 @@
 
 use std::collections::VecDeque;
 
-use crate::captures::any_capture;
+use crate::captures::{answer_capture, any_capture, low_run_capture};
 use crate::command::{
-    push_byte_string_field, push_number_field, Command, Rank, LONGEST_LINE, MOST_TICKS,
+    is_reading, push_byte_string_field, push_number_field, Command, Rank, LONGEST_LINE, MOST_TICKS,
+    NAMES,
 };
+use crate::manchester::PhaseDecode;
 use crate::random::Random;
 use crate::station_lines::{any_gate, any_settle, Pace, StationLines};
 
@@ -17,6 +19,7 @@ const SNIFFED: u32 = 1 << 8 | 1 << 16 | 1 << 24;
 pub enum Kind {
     Everything,
     Decoders,
+    Readings,
     Station,
     /// The station's commands, with most of the ticks in long lines.
     StationLong,
@@ -27,6 +30,11 @@ pub enum Kind {
     KeptSearch,
     Better,
     Lengths,
+    Sniff,
+    SniffDec,
+    Backward,
+    LowRun,
+    Held,
     Settle,
     Gate,
 }
@@ -37,6 +45,7 @@ impl Kind {
     pub fn named(name: &str) -> Option<Self> {
         Some(match name {
             "decoders" => Kind::Decoders,
+            "readings" => Kind::Readings,
             "station" | "new" | "policy" | "tick" | "ticks" | "start_tx" | "start_answer"
             | "poll" | "take_idle" | "take_rx" | "ack" | "state" => Kind::Station,
             "station-long" => Kind::StationLong,
@@ -47,6 +56,11 @@ impl Kind {
             "bsnew" | "bsstep" | "bsrun" => Kind::KeptSearch,
             "better" => Kind::Better,
             "lengths" => Kind::Lengths,
+            "sniff" => Kind::Sniff,
+            "sniffdec" => Kind::SniffDec,
+            "backward" => Kind::Backward,
+            "lowrun" => Kind::LowRun,
+            "held" => Kind::Held,
             "settle" => Kind::Settle,
             "gate" => Kind::Gate,
             _ => return None,
@@ -56,7 +70,7 @@ impl Kind {
     fn has_bad_lines(self) -> bool {
         matches!(
             self,
-            Kind::Everything | Kind::Decoders | Kind::Station | Kind::StationLong
+            Kind::Everything | Kind::Decoders | Kind::Readings | Kind::Station | Kind::StationLong
         )
     }
 }
@@ -103,8 +117,12 @@ impl Generator {
         let random = &mut self.random;
         match kind {
             Kind::Everything => {
-                let half = random.pick(&[Kind::Decoders, Kind::Station]);
-                self.next_of(half)
+                let part = random.pick(&[Kind::Decoders, Kind::Readings, Kind::Station]);
+                self.next_of(part)
+            }
+            Kind::Readings => {
+                let reading = any_reading(random);
+                self.next_of(reading)
             }
             Kind::Decoders => match self.kept_search.pop_front() {
                 Some(command) => command,
@@ -128,6 +146,21 @@ impl Generator {
             },
             Kind::Better => any_better(random),
             Kind::Lengths => any_lengths(random),
+            Kind::Sniff => Command::Sniff {
+                capture: any_capture(random),
+            },
+            Kind::SniffDec => Command::SniffDec {
+                found: any_found(random),
+            },
+            Kind::Backward => Command::Backward {
+                capture: answer_capture(random),
+            },
+            Kind::LowRun => Command::LowRun {
+                capture: low_run_capture(random),
+            },
+            Kind::Held => Command::Held {
+                capture: low_run_capture(random),
+            },
             Kind::Settle => any_settle(random),
             Kind::Gate => any_gate(random),
             Kind::KeptSearch => match self.kept_search.pop_front() {
@@ -185,6 +218,16 @@ impl Generator {
         Command::BsNew {
             mask: any_mask(random),
         }
+    }
+}
+
+fn any_reading(random: &mut Random) -> Kind {
+    match random.below(20) {
+        0..=7 => Kind::Sniff,
+        8..=10 => Kind::SniffDec,
+        11..=15 => Kind::Backward,
+        16 | 17 => Kind::LowRun,
+        _ => Kind::Held,
     }
 }
 
@@ -317,6 +360,27 @@ fn any_lengths(random: &mut Random) -> Command {
     Command::Lengths { bytes, n }
 }
 
+/// What a search may have found, and what none finds.
+fn any_found(random: &mut Random) -> Option<PhaseDecode> {
+    if random.one_in(12) {
+        return None;
+    }
+    let rank = Rank {
+        len: any_length_about_frames(random),
+        phase: any_phase(random),
+        score: any_score(random),
+    };
+    Some(rank.with_data(random.any().to_be_bytes()))
+}
+
+fn any_length_about_frames(random: &mut Random) -> u8 {
+    match random.below(4) {
+        0 | 1 => random.pick(&[8, 16, 24]),
+        2 => random.pick(&[7, 9, 15, 17, 23, 25]),
+        _ => any_length(random),
+    }
+}
+
 /// A good line made bad in one of the ways that a line can be bad.
 pub fn spoiled(line: &[u8], random: &mut Random) -> Vec<u8> {
     loop {
@@ -341,7 +405,7 @@ pub fn spoiled_in_way(line: &[u8], way: usize, random: &mut Random) -> Vec<u8> {
     // One of the operands; the word itself where there are none.
     let one = 1.min(last) + random.below(last.max(1));
     match way {
-        0 => fields[0] = unknown_word(random),
+        0 => fields[0] = unfitting_word(&fields[0], random),
         1 => drop(fields.remove(one)),
         2 => fields.push(random.pick(&[&b"0"[..], b"00", b"-", b"x"]).to_vec()),
         3 => fields.insert(one, Vec::new()),
@@ -380,31 +444,58 @@ pub fn spoiled_in_way(line: &[u8], way: usize, random: &mut Random) -> Vec<u8> {
     fields.join(&b' ')
 }
 
-fn unknown_word(random: &mut Random) -> Vec<u8> {
-    let words: [&[u8]; 20] = [
-        b"weigh",
-        b"weights",
-        b"phases",
-        b"searc",
-        b"bsne",
-        b"bs",
-        b"length",
-        b"nosuch",
-        b"news",
-        b"polic",
-        b"tic",
-        b"tickss",
-        b"start",
-        b"start_",
-        b"start_txx",
-        b"polls",
-        b"take",
-        b"acks",
-        b"stat",
-        b"gat",
-    ];
-    random.pick(&words).to_vec()
+/// A word that no command has, or, in place of a reading command's, one that has other operands.
+fn unfitting_word(word: &[u8], random: &mut Random) -> Vec<u8> {
+    let number = NAMES.iter().position(|name| name.as_bytes() == word);
+    let words = if number.is_some_and(is_reading) {
+        NEAR_READINGS
+    } else {
+        NO_COMMANDS
+    };
+    random.pick(words).to_vec()
 }
+
+const NO_COMMANDS: &[&[u8]] = &[
+    b"weigh",
+    b"weights",
+    b"phases",
+    b"searc",
+    b"bsne",
+    b"bs",
+    b"length",
+    b"nosuch",
+    b"news",
+    b"polic",
+    b"tic",
+    b"tickss",
+    b"start",
+    b"start_",
+    b"start_txx",
+    b"polls",
+    b"take",
+    b"acks",
+    b"stat",
+    b"gat",
+];
+
+const NEAR_READINGS: &[&[u8]] = &[
+    b"snif",
+    b"sniffe",
+    b"sniffs",
+    b"sniff",
+    b"sniffdec",
+    b"sniffde",
+    b"sniffdecs",
+    b"sniffdecnone",
+    b"backwar",
+    b"backwards",
+    b"back",
+    b"lowru",
+    b"lowruns",
+    b"low",
+    b"hel",
+    b"helds",
+];
 
 /// More ticks than a line may have, or other than the bytes are for.
 fn ticks_that_do_not_fit(random: &mut Random) -> Vec<u8> {

@@ -15,6 +15,7 @@ mod shrink;
 mod station;
 mod station_lines;
 mod stored;
+mod stored_readings;
 mod stored_station;
 
 // The unchanged files name each other from the crate's root.
@@ -33,7 +34,7 @@ const USAGE: &str = "usage:
                                                       counts the moments that a script brings a station to
   differential compare --calls PROGRAM --seed S --commands N [--only KIND] [--batch B]
   differential store --to FOLDER                      writes FOLDER/stdin and FOLDER/stdout
-KIND is decoders, station, station-long or a command's name.";
+KIND is decoders, readings, station, station-long or a command's name.";
 
 const USUAL_BATCH: usize = 50_000;
 const DIFFERENT: u8 = 1;

@@ -218,6 +218,7 @@ impl Shrinker<'_> {
     }
 
     fn simplify_command(&mut self, at: usize) {
+        self.no_decode(at);
         self.fewer_samples(at);
         self.simpler_bytes(at);
         for number in 0..MOST_NUMBERS {
@@ -231,6 +232,14 @@ impl Shrinker<'_> {
             });
         }
         self.fewer_lengths(at);
+    }
+
+    fn no_decode(&mut self, at: usize) {
+        self.take_change(at, |command| {
+            if let Command::SniffDec { found } = command {
+                *found = None;
+            }
+        });
     }
 
     fn fewer_samples(&mut self, at: usize) {
@@ -261,7 +270,7 @@ impl Shrinker<'_> {
         }
     }
 
-    /// Simpler samples, or half-bits.
+    /// Simpler samples, half-bits or data.
     fn simpler_bytes(&mut self, at: usize) {
         for place in 0..SAMPLES {
             for simple in SIMPLE_SAMPLES {
@@ -332,7 +341,11 @@ fn capture_of(command: &mut Command) -> Option<&mut Capture> {
         | Command::Search { capture, .. }
         | Command::Steps { capture, .. }
         | Command::BsStep { capture }
-        | Command::BsRun { capture } => Some(capture),
+        | Command::BsRun { capture }
+        | Command::Sniff { capture }
+        | Command::Backward { capture }
+        | Command::LowRun { capture }
+        | Command::Held { capture } => Some(capture),
         _ => None,
     }
 }
@@ -340,6 +353,9 @@ fn capture_of(command: &mut Command) -> Option<&mut Capture> {
 fn bytes_of(command: &mut Command) -> &mut [u8] {
     match command {
         Command::Start { half_bits, .. } => &mut half_bits.data,
+        Command::SniffDec {
+            found: Some(decode),
+        } => &mut decode.data,
         command => match capture_of(command) {
             Some(capture) => &mut capture.samples,
             None => &mut [],
@@ -421,6 +437,14 @@ fn change_number(command: &mut Command, number: usize, make: fn(i32) -> i32) {
         Command::Steps { k, .. } if number == 0 => on_u8(k),
         Command::Lengths { n, .. } if number == 0 => on_u8(n),
         Command::Weight { sample } if number == 0 => on_u8(sample),
+        Command::SniffDec {
+            found: Some(decode),
+        } => match number {
+            0 => on_u8(&mut decode.bit_len),
+            1 => on_i8(&mut decode.phase_ticks),
+            2 => on_u16(&mut decode.score),
+            _ => {}
+        },
         Command::Start { half_bits, .. } if number == 0 => on_u8(&mut half_bits.len),
         Command::Settle { ticks, lead } => match number {
             0 => on_u16(ticks),

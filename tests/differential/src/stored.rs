@@ -7,11 +7,12 @@ use crate::captures::{any_capture, bits_of, fast_capture, frame_capture, samples
 use crate::command::{Capture, Command, Rank, LONGEST_LINE};
 use crate::generate::{spoiled_in_way, ticks_line, Generator, Kind, SPOILED_WAYS};
 use crate::random::Random;
-use crate::stored_station;
+use crate::{stored_readings, stored_station};
 
 const SEED: u64 = 62386;
 /// The seeded part's lines.
 const OF_DECODERS: usize = 900;
+const OF_READINGS: usize = 190;
 const OF_STATION: usize = 800;
 const SNIFFED: u32 = 1 << 8 | 1 << 16 | 1 << 24;
 const ONLY_8: u32 = 1 << 8;
@@ -21,13 +22,17 @@ const ONLY_8: u32 = 1 << 8;
 pub fn script() -> Vec<u8> {
     let mut lines = Vec::new();
     bench_rows(&mut lines);
+    stored_readings::bench_rows(&mut lines);
     stored_station::bench_rows(&mut lines);
     findings(&mut lines);
+    stored_readings::findings(&mut lines);
     stored_station::findings(&mut lines);
     edges(&mut lines);
+    stored_readings::edges(&mut lines);
     stored_station::edges(&mut lines);
     bad_lines(&mut lines);
     seeded(&mut lines, Kind::Decoders, OF_DECODERS);
+    seeded(&mut lines, Kind::Readings, OF_READINGS);
     seeded(&mut lines, Kind::Station, OF_STATION);
     lines.retain(|line| line.is_ascii());
     lines.push(phase(32, 0, &wave(&[0x01])));
@@ -54,11 +59,26 @@ pub fn answers(script: &[u8]) -> Vec<u8> {
 
 type Lines = Vec<Vec<u8>>;
 
-fn wave(bytes: &[u8]) -> Capture {
+/// Eight bits at phase 0, and nothing in the scan: finding 6 of the readings.
+pub const AT_PHASE_0_ALONE: [u8; 12] = [
+    0xFF, 0x8F, 0xF8, 0x07, 0x87, 0xFC, 0x38, 0x07, 0xC7, 0xFF, 0xFF, 0xFF,
+];
+
+/// Nine bits that are read as eight: finding 19 of the readings.
+pub const NINE_BITS: [u8; 12] = [
+    0x0F, 0x0F, 0xF0, 0xF0, 0xF0, 0xF0, 0xF0, 0xF0, 0xF0, 0x0F, 0xFF, 0xFF,
+];
+
+/// Eight bits of a wave with two runs off by one, that are read as others: finding 21 of the readings.
+pub const TWO_RUNS_OFF: [u8; 11] = [
+    0x1F, 0xC3, 0xC3, 0xC3, 0xC3, 0xC3, 0xC3, 0xC3, 0xC3, 0xFF, 0xFF,
+];
+
+pub fn wave(bytes: &[u8]) -> Capture {
     frame_capture(&bits_of(bytes))
 }
 
-fn whole(samples: &[u8]) -> Capture {
+pub fn whole(samples: &[u8]) -> Capture {
     samples_capture(samples.len() as u16, samples)
 }
 
@@ -153,14 +173,8 @@ fn findings(lines: &mut Lines) {
     never_kept_after_early_done(lines);
     done_with_nothing(lines);
     other_window_at_each_step(lines);
-    let nine_bits = [
-        0x0F, 0x0F, 0xF0, 0xF0, 0xF0, 0xF0, 0xF0, 0xF0, 0xF0, 0x0F, 0xFF, 0xFF,
-    ];
-    lines.push(search(SNIFFED, &whole(&nine_bits)));
-    let two_runs_off = [
-        0x1F, 0xC3, 0xC3, 0xC3, 0xC3, 0xC3, 0xC3, 0xC3, 0xC3, 0xFF, 0xFF,
-    ];
-    lines.push(search(SNIFFED, &whole(&two_runs_off)));
+    lines.push(search(SNIFFED, &whole(&NINE_BITS)));
+    lines.push(search(SNIFFED, &whole(&TWO_RUNS_OFF)));
 }
 
 fn never_kept_after_early_done(lines: &mut Lines) {
@@ -172,9 +186,7 @@ fn never_kept_after_early_done(lines: &mut Lines) {
         lines.push(bsstep(&one));
         lines.push(bsrun(&one));
     }
-    let nothing_later = whole(&[
-        0xFF, 0x8F, 0xF8, 0x07, 0x87, 0xFC, 0x38, 0x07, 0xC7, 0xFF, 0xFF, 0xFF,
-    ]);
+    let nothing_later = whole(&AT_PHASE_0_ALONE);
     lines.push(steps(SNIFFED, 6, &nothing_later));
     lines.push(search(SNIFFED, &nothing_later));
 }
@@ -367,6 +379,7 @@ fn bad_lines(lines: &mut Lines) {
         lengths(&[8, 31], 31),
     ];
     good.extend(stored_station::good_lines());
+    good.extend(stored_readings::good_lines());
     lines.push(bsnew(ONLY_8));
     for line in &good {
         lines.push(line.clone());
@@ -470,6 +483,46 @@ fn bad_lines(lines: &mut Lines) {
         "gate 256",
         "gate 1 1",
         "gate 0x1",
+        "sniff",
+        "sniff ",
+        "sniff 0",
+        "sniff none",
+        "snif 0 -",
+        "sniffe none",
+        "sniffdec",
+        "sniffdec ",
+        "sniffdec no",
+        "sniffdec nonee",
+        "sniffdec None",
+        "sniffdec none ",
+        "sniffdec none 0",
+        "sniffdec  none",
+        "sniffdec -",
+        "sniffdec 8 0 218",
+        "sniffdec 8 0 218 -",
+        "sniffdec 8 0 218 none",
+        "sniffdec 8 0 218 010000000000000",
+        "sniffdec 8 0 218 01000000000000000",
+        "sniffdec 8 0 218 010000000000000000",
+        "sniffdec 8 0 218 010000000000000A",
+        "sniffdec 8 0 218 0100000000000000 ",
+        "sniffdec 8 0 218 0100000000000000 0",
+        "sniffdec 08 0 218 0100000000000000",
+        "sniffdec -8 0 218 0100000000000000",
+        "sniffdec 256 0 218 0100000000000000",
+        "sniffdec 8 -0 218 0100000000000000",
+        "sniffdec 8 +1 218 0100000000000000",
+        "sniffdec 8 -129 218 0100000000000000",
+        "sniffdec 8 128 218 0100000000000000",
+        "sniffdec 8 0 -1 0100000000000000",
+        "sniffdec 8 0 65536 0100000000000000",
+        "sniffdecs none",
+        "backward",
+        "backward none",
+        "lowrun 0",
+        "lowruns 0 -",
+        "held",
+        "hel 0 -",
         "?",
         " ",
         "-",
