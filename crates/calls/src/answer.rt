@@ -118,12 +118,12 @@ fn magnitude(ticks: i8) -> u16 {
     }
 }
 
-// A number as 16 hex digits.
-pub(crate) fn put_hex16(out: &mut Answers, at: usize, number: u64) -> usize
-    requires { ⌜ Room at 16 ⌝ }
-    ensures { λ r. ⌜ r ≡ at + 16 ⌝ }
+// The last `width` hex digits of a number.
+pub(crate) fn put_hex_digits(out: &mut Answers, at: usize, number: u64, width: usize) -> usize
+    requires { ⌜ Room at width ⌝ }
+    ensures { λ r. ⌜ r ≡ at + width ⌝ }
 {
-    put_digits(out, at, number, 16, 16)
+    put_digits(out, at, number, 16, width)
 }
 
 // Each byte as two hex digits.

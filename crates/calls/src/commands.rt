@@ -5,6 +5,7 @@ use crate::answer;
 use crate::answer::Answers;
 use crate::decoders;
 use crate::kept_search;
+use crate::readings;
 use crate::station;
 use fsm::DaliBitbangPhy;
 use lengths::BitLengths;
@@ -68,6 +69,10 @@ fn command(line: &[u8], kept: Kept, out: &mut Answers, at: usize) -> Answered
         return Answered { kept, at };
     }
     let end = decoders::answer(line, out, at);
+    if at < end {
+        return Answered { kept, at: end };
+    }
+    let end = readings::answer(line, out, at);
     if at < end {
         return Answered { kept, at: end };
     }

@@ -7,6 +7,7 @@ mod fields;
 mod kept_search;
 mod lines;
 mod operands;
+mod readings;
 mod reports;
 mod results;
 mod station;

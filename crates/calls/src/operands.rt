@@ -1,4 +1,4 @@
-// What the commands work on, read from fields of a line: a window, a set of lengths, a decode, a policy.
+// What the commands work on, read from fields of a line: an event, a window, a set of lengths, a decode, a policy.
 ghost use Prim.Native.Nat.{_<_};
 use crate::fields;
 use crate::values;
@@ -8,12 +8,18 @@ use crate::values::Count;
 use crate::values::Number;
 use crate::values::Phase;
 use fsm::CollisionPolicy;
+use fsm::RxCompletedEvent;
 use lengths::BitLengths;
 use window::DALI_RX_SAMPLE_BUF_LEN;
 use window::PhaseDecode;
 use window::SampleWindow;
 
-// An enum holds no array, so the window stands beside what is to be thought of it.
+// An enum holds no array, so an event and a window each stand beside what is to be thought of it.
+pub(crate) struct Heard {
+    pub(crate) good: bool,
+    pub(crate) event: RxCompletedEvent,
+}
+
 pub(crate) struct Capture {
     pub(crate) good: bool,
     pub(crate) window: SampleWindow,
@@ -34,21 +40,31 @@ pub(crate) enum Policy {
     Bad,
 }
 
-// `COUNT HEX128`, the last two fields of a line, from field n on.
+// `COUNT HEX128`, the last two fields of a line, from field n on, in an event that is new otherwise.
+pub(crate) fn read_event(line: &[u8], n: u8) -> Heard
+    requires { ⌜ n < 255 ⌝ }
+{
+    let mut event = RxCompletedEvent::new();
+    let Number::Is(sample_count) = values::read_number(fields::field(line, n), u16::MAX) else {
+        return Heard { good: false, event };
+    };
+    let mut samples = [0u8; DALI_RX_SAMPLE_BUF_LEN];
+    let good = values::read_hex(fields::rest(line, n + 1), &mut samples);
+    event.samples = samples;
+    event.sample_count = sample_count;
+    Heard { good, event }
+}
+
+// The window of the same two fields.
 pub(crate) fn read_capture(line: &[u8], n: u8) -> Capture
     requires { ⌜ n < 255 ⌝ }
 {
-    let mut samples = [0u8; DALI_RX_SAMPLE_BUF_LEN];
-    let Number::Is(sample_count) = values::read_number(fields::field(line, n), u16::MAX) else {
-        return Capture {
-            good: false,
-            window: SampleWindow::of_capture(&samples, 0),
-        };
-    };
-    let good = values::read_hex(fields::rest(line, n + 1), &mut samples);
+    let heard = read_event(line, n);
+    let event = heard.event;
+    let samples = event.samples;
     Capture {
-        good,
-        window: SampleWindow::of_capture(&samples, sample_count),
+        good: heard.good,
+        window: SampleWindow::of_capture(&samples, event.sample_count),
     }
 }
 
@@ -83,7 +99,7 @@ fn has_bit(mask: [u8; 4], bit: u8) -> bool
     (byte >> (bit % 8)) % 2 == 1
 }
 
-// `LEN PHASE SCORE`. A decode's data plays no part in what is better.
+// `LEN PHASE SCORE`. The data stays 0: it plays no part in what is better, and `sniffdec` has it in a field of its own.
 pub(crate) fn read_decode(length: &[u8], phase: &[u8], score: &[u8]) -> Decode {
     let Byte::Is(bit_len) = values::read_byte(length) else {
         return Decode::Bad;

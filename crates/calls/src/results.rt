@@ -16,12 +16,24 @@ pub(crate) fn put_decode(out: &mut Answers, at: usize, decode: PhaseDecode) -> u
     ensures { λ r. ⌜ r ≤ at + 35 ⌝ }
 {
     let at = answer::put_decimal(out, at, decode.bit_len as u16);
+    let at = put_phase_and_score(out, at, decode.phase_ticks, decode.score);
     let at = answer::put_byte(out, at, b' ');
-    let at = answer::put_phase(out, at, decode.phase_ticks);
+    answer::put_hex_digits(out, at, decode.data, 16)
+}
+
+// ` PHASE SCORE`, of 1 + 6 + 6 bytes at most
+pub(crate) fn put_phase_and_score(
+    out: &mut Answers,
+    at: usize,
+    phase_ticks: i8,
+    score: u16,
+) -> usize
+    requires { ⌜ Room at 13 ⌝ }
+    ensures { λ r. ⌜ r ≤ at + 13 ⌝ }
+{
     let at = answer::put_byte(out, at, b' ');
-    let at = answer::put_decimal(out, at, decode.score);
-    let at = answer::put_byte(out, at, b' ');
-    answer::put_hex16(out, at, decode.data)
+    let at = answer::put_phase(out, at, phase_ticks);
+    answer::put_field(out, at, score)
 }
 
 // `found STEPS LEN PHASE SCORE DATA16` or `nothing STEPS`
