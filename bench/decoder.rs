@@ -6,17 +6,16 @@ use std::hint::black_box;
 
 mod common;
 
-mod fsm {
-    pub const DALI_RX_SAMPLE_BUF_LEN: usize = 64;
-}
+#[path = "../tests/differential/src/original.rs"]
+mod original;
 
-#[allow(dead_code)]
-mod manchester {
-    include!(env!("OXIDALI_MANCHESTER"));
-}
+// The unchanged files name each other from the crate's root.
+use original::{fsm, halfbits, manchester, phy, platform, rx_decode};
 
 use common::{ratios, Random, ROUNDS};
+use fsm::RxCompletedEvent;
 use manchester::{BestPhaseSearch, PhaseDecode, SampleWindow, SNIFFED_BIT_LENGTHS};
+use rx_decode::{RxDecode, SniffedDecode, SniffedFrame};
 
 const SAMPLES: usize = fsm::DALI_RX_SAMPLE_BUF_LEN;
 const MAX_OUT_BITS: u8 = manchester::MANCHESTER_RX_MAX_DECODED_BITS;
@@ -34,17 +33,34 @@ extern "C" {
         phase_ticks: i8,
     ) -> u64;
     fn timed_search(samples: &[u8; SAMPLES], sample_count: u16) -> u64;
+    fn timed_sniffed(samples: &[u8; SAMPLES], sample_count: u16) -> u64;
 }
 
+/// The Rust is lent the event as it stands; `timed` makes one of samples and count at each call.
 struct Capture {
     samples: [u8; SAMPLES],
     count: u16,
+    event: RxCompletedEvent,
 }
 
 /// The same number as `timed` makes of a decode.
 fn digest(decode: &PhaseDecode) -> u64 {
     let data = u64::from_be_bytes(decode.data);
     (data >> 32 << 32) + (u64::from(decode.bit_len) << 16) + u64::from(decode.score)
+}
+
+/// The same number as `timed` makes of a reading.
+fn sniffed_digest(decode: &SniffedDecode) -> u64 {
+    let frame: u32 = match decode.frame {
+        SniffedFrame::Forward16(word) => 0x1000_0000 + u32::from(word),
+        SniffedFrame::Backward8(byte) => 0x0800_0000 + u32::from(byte),
+        SniffedFrame::Forward24([first, second, third]) => {
+            u32::from_be_bytes([0x18, first, second, third])
+        }
+        SniffedFrame::UnsupportedLength(length) => 0x2000_0000 + u32::from(length),
+        SniffedFrame::DecodeFailed => 0,
+    };
+    (u64::from(frame) << 16) + u64::from(decode.score)
 }
 
 #[inline(never)]
@@ -62,6 +78,11 @@ fn rust_search(capture: &Capture) -> u64 {
 }
 
 #[inline(never)]
+fn rust_sniffed(capture: &Capture) -> u64 {
+    sniffed_digest(&capture.event.decode_sniffed_with_phase())
+}
+
+#[inline(never)]
 fn proved_phase(capture: &Capture, phase_ticks: i8) -> u64 {
     unsafe { timed_phase(&capture.samples, capture.count, MAX_OUT_BITS, phase_ticks) }
 }
@@ -69,6 +90,11 @@ fn proved_phase(capture: &Capture, phase_ticks: i8) -> u64 {
 #[inline(never)]
 fn proved_search(capture: &Capture) -> u64 {
     unsafe { timed_search(&capture.samples, capture.count) }
+}
+
+#[inline(never)]
+fn proved_sniffed(capture: &Capture) -> u64 {
+    unsafe { timed_sniffed(&capture.samples, capture.count) }
 }
 
 /// The wave of a frame of 8, 16 or 24 random bits: half-bits of four ticks, each run of ticks off by up to `jitter`.
@@ -95,7 +121,14 @@ fn captured(ticks: &[u8]) -> Capture {
     for (sample, byte) in samples.iter_mut().zip(bytes) {
         *sample = byte.iter().fold(0, |sum, tick| 2 * sum + tick);
     }
-    Capture { samples, count }
+    let mut event = RxCompletedEvent::new();
+    event.samples = samples;
+    event.sample_count = count;
+    Capture {
+        samples,
+        count,
+        event,
+    }
 }
 
 /// The sum of the answers of all turns.
@@ -137,7 +170,7 @@ fn main() {
         ("noise", (0..CAPTURES).map(|_| noise(&mut random)).collect()),
     ];
     println!("time of the proved code divided by the Rust's (median of {ROUNDS} rounds)");
-    println!("captures          decode_phase   search");
+    println!("captures          decode_phase   search  decode_sniffed_with_phase");
     for (name, captures) in &kinds {
         let phase = ratio(
             captures,
@@ -145,6 +178,7 @@ fn main() {
             |c| all_phases(c, proved_phase),
         );
         let search = ratio(captures, rust_search, proved_search);
-        println!("{name:<17} {phase:>12.2} {search:>8.2}");
+        let sniffed = ratio(captures, rust_sniffed, proved_sniffed);
+        println!("{name:<17} {phase:>12.2} {search:>8.2} {sniffed:>26.2}");
     }
 }

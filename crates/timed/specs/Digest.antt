@@ -1,12 +1,12 @@
--- One number for a decode, by which two decoders are compared while they are timed. Assumes nothing.
+-- One number for a decode or a reading, by which two decoders are compared while they are timed. Assumes nothing.
 use Prim.Native.Nat.{ℕ, _+_, _*_, _/_}
-use mathlib.Core.List.{[], _∷_}
-use Rattle.lengths.specs.declared.BitLengths.{BitLengths}
-use Rattle.lengths.specs.Lengths.{setOf}
 use Rattle.window.specs.declared.PhaseDecode.{PhaseDecode}
 use Rattle.search.specs.declared.Found.{Found}
 use Rattle.search.specs.declared.Found.the-variants.{Decode, Nothing}
 use Rattle.search.specs.declared.SearchAnswer.{SearchAnswer}
+use Rattle.rx_decode.specs.declared.SniffedFrame.{SniffedFrame}
+use Rattle.rx_decode.specs.declared.SniffedFrame.the-variants.{Forward16, Backward8, Forward24, UnsupportedLength, DecodeFailed}
+use Rattle.rx_decode.specs.declared.SniffedDecode.{SniffedDecode}
 
 -- the first four data bytes on top, then the length, then the score
 unfoldable pub digestOf : PhaseDecode → ℕ
@@ -20,5 +20,13 @@ foundOf Nothing = 0
 abbrev pub answerOf : SearchAnswer → ℕ
 answerOf a = foundOf (a .found)
 
-unfoldable pub sniffedLengths : BitLengths
-sniffedLengths = setOf (8 ∷ 16 ∷ 24 ∷ [])
+-- of a frame: its kind on top, then its bytes or its length; 0 where the decode failed
+unfoldable pub frameDigest : SniffedFrame → ℕ
+frameDigest (Forward16 word) = 0x10000000 + word
+frameDigest (Backward8 byte) = 0x08000000 + byte
+frameDigest (Forward24 first second third) = 0x18000000 + first * 65536 + second * 256 + third
+frameDigest (UnsupportedLength length) = 0x20000000 + length
+frameDigest DecodeFailed = 0
+
+unfoldable pub sniffedDigest : SniffedDecode → ℕ
+sniffedDigest d = frameDigest (d .frame) * 65536 + d .score

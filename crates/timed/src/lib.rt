@@ -3,10 +3,17 @@ ghost use mathlib.Core.Path.{_≡_};
 ghost use Rattle.window.specs.Window.{windowOf};
 ghost use Rattle.window.specs.Phase.{phaseOf};
 ghost use Rattle.search.specs.Search.{newOf, runOf};
-ghost use Rattle.timed.specs.Digest.{digestOf, answerOf, sniffedLengths};
+ghost use Rattle.lengths.specs.Lengths.{sniffedLengths};
+ghost use Rattle.fsm.specs.Station.{lastRxOf, eventOf};
+ghost use Rattle.rx_decode.specs.Reading.{sniffedOf, foundIn};
+ghost use Rattle.timed.specs.Digest.{digestOf, answerOf, frameDigest, sniffedDigest};
+use fsm::RxCompletedEvent;
 use lengths::SNIFFED_BIT_LENGTHS;
+use rx_decode::SniffedDecode;
+use rx_decode::SniffedFrame;
 use search::BestPhaseSearch;
 use search::Found;
+use search::IsrDecode;
 use window::DALI_RX_SAMPLE_BUF_LEN;
 use window::PhaseDecode;
 use window::SampleWindow;
@@ -43,4 +50,47 @@ pub extern "C" fn timed_search(samples: &[u8; DALI_RX_SAMPLE_BUF_LEN], sample_co
         return 0;
     };
     digest(decode)
+}
+
+// The kind, then its bytes or its length.
+fn frame_digest(frame: SniffedFrame) -> u32
+    ensures { λ r. ⌜ r ≡ frameDigest frame ⌝ }
+{
+    match frame {
+        SniffedFrame::Forward16(word) => 0x1000_0000 + word as u32,
+        SniffedFrame::Backward8(byte) => 0x0800_0000 + byte as u32,
+        SniffedFrame::Forward24(first, second, third) => {
+            0x1800_0000 + first as u32 * 65_536 + second as u32 * 256 + third as u32
+        }
+        SniffedFrame::UnsupportedLength(length) => 0x2000_0000 + length as u32,
+        SniffedFrame::DecodeFailed => 0,
+    }
+}
+
+fn sniffed_digest(decode: SniffedDecode) -> u64
+    ensures { λ r. ⌜ r ≡ sniffedDigest decode ⌝ }
+{
+    let score = decode.score;
+    let frame = decode.frame;
+    frame_digest(frame) as u64 * 65_536 + score as u64
+}
+
+// An event can't be handed over, since it holds an enum: it is made of its capture here, and the time for that counts.
+#[no_mangle]
+pub extern "C" fn timed_sniffed(samples: &[u8; DALI_RX_SAMPLE_BUF_LEN], sample_count: u16) -> u64
+    ensures { λ r. ⌜ r ≡ sniffedDigest (sniffedOf (foundIn (eventOf (lastRxOf (now (samples .entry)) «sample_count» 0 0)))) ⌝ }
+{
+    let samples = *samples;
+    let ev = RxCompletedEvent {
+        samples,
+        sample_count,
+        pre_idle_ticks: 0,
+        rx_epoch: 0,
+        rx_tick: 0,
+        max_sample_gap_us: 0,
+        timing_degraded: false,
+        sniff_seq: 0,
+        isr_decode: IsrDecode::NotDecoded,
+    };
+    sniffed_digest(rx_decode::decode_sniffed_with_phase(ev))
 }

@@ -1,23 +1,19 @@
 -- `timed::timed_search` meets its contract. Assumes nothing.
 use borrow.Author.Needs.{needs}
-use mathlib.Core.Path.{_≡_, refl, sym, _∙_, ap}
-use Rattle.laws.specs.Pick.{pick}
-use Rattle.lengths.specs.Lengths.{mask, setOf, withLengths, withLength}
+use mathlib.Core.Path.{_≡_, sym, _∙_, ap}
+use Rattle.lengths.specs.Lengths.{mask, sniffedLengths}
+use Rattle.lengths.proofs.Constants.{sniffed-mask}
 use Rattle.window.specs.declared.SampleWindow.{SampleWindow}
 use Rattle.search.specs.declared.SearchAnswer.{SearchAnswer}
 use Rattle.search.specs.declared.BestPhaseSearch.{BestPhaseSearch}
 use Rattle.search.specs.Search.{newOf, runOf}
-use Rattle.timed.specs.Digest.{foundOf, answerOf, sniffedLengths}
+use Rattle.timed.specs.Digest.{foundOf, answerOf}
 use Rattle.timed.proofs.timed_search.Statement.{statement}
 use Rattle.timed.proofs.timed_search.Tie as tie
 
-constant : mask 0x01010100 ≡ sniffedLengths
-unfolding sniffedLengths setOf withLengths withLength pick
-constant = refl
-
 -- what the search in the window of the capture answers
 answered : {w v : SampleWindow} {s : BestPhaseSearch} {a : SearchAnswer} → w ≡ v → s ≡ newOf (mask 0x01010100) → a ≡ runOf s w → answerOf a ≡ answerOf (runOf (newOf sniffedLengths) v)
-answered ew es ea = rw (ea, es, ew, constant)
+answered ew es ea = rw (ea, es, ew, sniffed-mask)
 
 of-capture-requires : tie.Need-of-capture-requires
 of-capture-requires c κs = search needs
