@@ -1,11 +1,14 @@
 -- Laws of numbers from their digits: one for every base and every count. Assumes nothing.
-use mathlib.Core.Path.{_≡_, refl, sym, ap}
+use mathlib.Core.Bool.{Bool, true, false}
+use mathlib.Core.Path.{_≡_, refl, sym, _∙_, ap}
 use Prim.Native.Nat.{ℕ, zero, suc, _+_, _-_, _*_, _/_, _%_, _^_, _<_, _≤_}
 use native.Mathlib.Omega.{arith}
-use native.Mathlib.Nat.{mul-assoc, add-mul, suc-mul, pow-zero, pow-suc, add-zero, add-suc, add-assoc, mul-le-mul-right, mul-one, mod-one}
+use native.Mathlib.Nat.{mul-assoc, add-mul, suc-mul, pow-zero, pow-suc, add-zero, add-suc, add-assoc, mul-le-mul-right, mul-one, mod-one, mod-eq-of-lt, div-eq-of-lt, mul-add-div-right, mul-add-mod-self-right}
 use lib.Dec.{lit<}
 use native.Mathlib.Numerals.{add-one}
-use lib.Pow.{shr-shr, mod-pow-add}
+use lib.Pow.{high, low, pow-add, shr-shr, mod-pow-add}
+use lib.Dec.{eqb}
+use Rattle.laws.specs.Bit.{bit}
 use Rattle.laws.specs.Packed.{packed}
 
 pub packed-same : (base k : ℕ) (f g : ℕ → ℕ) → ((i : ℕ) → i < k → f i ≡ g i) → packed base k f ≡ packed base k g
@@ -43,3 +46,39 @@ packed-bits (suc k) c n =
     let shift = packed-same 2 k (λ i. n / 2 ^ (c + (suc k - 1 - i)) % 2) (λ i. n / 2 ^ (suc c + (k - 1 - i)) % 2) (λ i h. ap (λ e. n / 2 ^ e % 2) (omega arith)) in
     let last : c + (suc k - 1 - k) ≡ c = omega arith in
     rw (shift, packed-bits k (suc c) n, last, ← add-one k, mod-pow-add (n / 2 ^ c) k 1, shr-shr n c 1, add-one c)
+
+-- the digits from the place a on, of which c others follow
+regrouped : (a b c x y : ℕ) → a * (x * y) + (b * y + c) ≡ (a * x + b) * y + c
+regrouped a b c x y = rw (add-mul (a * x) b y, mul-assoc a x y) (sym (add-assoc (a * (x * y)) (b * y) c))
+
+middle : (a b c k r : ℕ) → b < 2 ^ k → c < 2 ^ r → (a * 2 ^ (k + r) + (b * 2 ^ r + c)) / 2 ^ r % 2 ^ k ≡ b
+middle a b c k r small small' =
+    ap (λ x. (a * x + (b * 2 ^ r + c)) / 2 ^ r % 2 ^ k) (pow-add 2 k r)
+    ∙ ap (λ x. x / 2 ^ r % 2 ^ k) (regrouped a b c (2 ^ k) (2 ^ r))
+    ∙ ap (λ x. x % 2 ^ k) (high (a * 2 ^ k + b) r small')
+    ∙ low a k small
+
+pub packed-part : (n a k c : ℕ) (f : ℕ → ℕ) → a + (k + c) ≡ n → ((i : ℕ) → f i < 2) → packed 2 n f / 2 ^ c % 2 ^ k ≡ packed 2 k (λ i. f (a + i))
+packed-part n a k c f e small =
+    let later : packed 2 c (λ i. f (a + (k + i))) < 2 ^ c = packed-lt 2 c (λ i. f (a + (k + i))) (λ i h. small (a + (k + i))) in
+    let these : packed 2 k (λ i. f (a + i)) < 2 ^ k = packed-lt 2 k (λ i. f (a + i)) (λ i h. small (a + i)) in
+    rw (← e, packed-add 2 a (k + c) f, packed-add 2 k c (λ i. f (a + i))) (middle (packed 2 a f) _ _ k c these later)
+
+-- one digit, in any base
+pub packed-digit : (base n a c : ℕ) (f : ℕ → ℕ) → suc a + c ≡ n → ((i : ℕ) → f i < base) → packed base n f / base ^ c % base ≡ f a
+unfolding packed
+packed-digit base n a c f e small =
+    let later : packed base c (λ i. f (suc a + i)) < base ^ c = packed-lt base c (λ i. f (suc a + i)) (λ i h. small (suc a + i)) in
+    let above : (packed base (suc a) f * base ^ c + packed base c (λ i. f (suc a + i))) / base ^ c ≡ packed base (suc a) f
+    = mul-add-div-right {m = base ^ c} (omega (arith, later)) (packed base (suc a) f) _ ∙ rw (div-eq-of-lt later) (add-zero (packed base (suc a) f)) in
+    rw (← e, packed-add base (suc a) c f, above) (mul-add-mod-self-right (packed base a f) base (f a) ∙ mod-eq-of-lt (small a))
+
+-- ---- a truth as a digit
+pub bit-lt : (b : Bool) → bit b < 2
+bit-lt true = omega arith
+bit-lt false = omega arith
+
+pub digit-is : (n : ℕ) → n < 2 → bit (eqb n 1) ≡ n
+digit-is zero h = refl
+digit-is (suc zero) h = refl
+digit-is (suc (suc n)) h = absurd (let no-digit : ⊥ = omega arith in no-digit)

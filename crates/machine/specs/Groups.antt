@@ -1,6 +1,6 @@
 -- A core with one of its groups, or one field of a group, set anew. Assumes nothing.
 use Prim.Native.Nat.{ℕ}
-use mathlib.Core.Bool.{Bool, true, false}
+use mathlib.Core.Bool.{Bool}
 use Rattle.machine.specs.declared.BusState.{BusState}
 use Rattle.machine.specs.declared.RxState.{RxState}
 use Rattle.machine.specs.declared.Runs.{Runs}
@@ -9,10 +9,6 @@ use Rattle.machine.specs.declared.Rx.{Rx}
 use Rattle.machine.specs.declared.Told.{Told}
 use Rattle.machine.specs.declared.Tx.{Tx}
 use Rattle.machine.specs.declared.Core.{Core}
-
-abbrev pub bit : Bool → ℕ
-bit true = 1
-bit false = 0
 
 -- ---- a core with another group
 abbrev pub withRuns : Core → Runs → Core

@@ -3,8 +3,9 @@
 use Prim.Native.Nat.{ℕ, _+_, _*_, _%_, min}
 use mathlib.Core.Bool.{Bool}
 use lib.Dec.{eqb, ltb}
+use Rattle.laws.specs.Bit.{bit}
 use Rattle.laws.specs.Pick.{pick}
-use Rattle.machine.specs.Groups.{bit, withRx, withTold, received}
+use Rattle.machine.specs.Groups.{withRx, withTold, received}
 use Rattle.machine.specs.BecomingIdle.{idled}
 use Rattle.machine.specs.declared.RxState.the-variants.{Completed}
 use Rattle.machine.specs.declared.Rx.{Rx}

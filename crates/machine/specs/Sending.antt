@@ -3,8 +3,9 @@ use Prim.Native.Nat.{ℕ, _+_, _-_, _/_, _%_, _^_, min}
 use mathlib.Core.Bool.{Bool, true, false, not}
 use lib.Dec.{eqb, leb}
 use lib.ListN.{getD}
+use Rattle.laws.specs.Bit.{bit}
 use Rattle.laws.specs.Pick.{pick}
-use Rattle.machine.specs.Groups.{bit, withTx, inState, driving, telling, arming, spacing}
+use Rattle.machine.specs.Groups.{withTx, inState, driving, telling, arming, spacing}
 use Rattle.machine.specs.BecomingIdle.{idled}
 use Rattle.machine.specs.Idle.{idleTick}
 use Rattle.machine.specs.declared.BusState.the-variants.{CollisionTx}

@@ -1,7 +1,8 @@
 // The machine of source document 000 (fsm.rs) without its captures: what ticks and starts do to the counters and marks of a station.
 ghost use mathlib.Core.Path.{_≡_};
 ghost use Prim.Native.Nat.{_+_, _-_, _*_, _%_, min};
-ghost use Rattle.machine.specs.Groups.{bit, received};
+ghost use Rattle.laws.specs.Bit.{bit};
+ghost use Rattle.machine.specs.Groups.{received};
 ghost use Rattle.machine.specs.Runs.{heardOf};
 ghost use Rattle.machine.specs.BecomingIdle.{idled};
 ghost use Rattle.machine.specs.Sampling.{highRun, sampled, finished, rxTick};

@@ -8,8 +8,8 @@ use native.Mathlib.Nat.{not-suc-le-zero}
 use native.Mathlib.Numerals.{add-one}
 use lib.ListN.{length, drop, getD, drop-of-length-le}
 use lib.Seq.{drop-cons}
+use Rattle.laws.specs.Bit.{bit}
 use Rattle.laws.proofs.Picked.{on-true, on-false}
-use Rattle.machine.specs.Groups.{bit}
 use Rattle.fsm.specs.Starting.{startTx}
 use Rattle.fsm.specs.Ticking.{isRx, ticked}
 use Rattle.fsm.specs.declared.DaliBitbangPhy.{DaliBitbangPhy}

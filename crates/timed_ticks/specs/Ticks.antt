@@ -1,12 +1,12 @@
 -- What the timed loop does to a station, and the one number by which two stations are compared while they are timed. Assumes nothing.
 use Prim.Native.Nat.{ℕ, zero, suc, _+_, _*_, _%_}
-use mathlib.Core.Bool.{Bool, true, false, not}
+use mathlib.Core.Bool.{Bool, false, not}
 use mathlib.Core.List.{List, [], _∷_}
 use lib.Dec.{eqb}
 use lib.ListN.{getD}
+use Rattle.laws.specs.Bit.{bit}
 use Rattle.laws.specs.Pick.{pick}
 use Rattle.halfbits.specs.declared.HalfBitBuffer.{HalfBitBuffer}
-use Rattle.machine.specs.Groups.{bit}
 use Rattle.machine.specs.declared.BusState.{BusState}
 use Rattle.fsm.specs.Station.{eventOf}
 use Rattle.fsm.specs.Starting.{isIdle, startTx}

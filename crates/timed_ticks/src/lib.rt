@@ -3,7 +3,7 @@
 ghost use mathlib.Core.Path.{_≡_};
 ghost use Prim.Native.Nat.{_+_, _≤_, _<_};
 ghost use lib.ListN.{getD};
-ghost use Rattle.machine.specs.Groups.{bit};
+ghost use Rattle.laws.specs.Bit.{bit};
 ghost use Rattle.fsm.specs.Station.{newStation};
 ghost use Rattle.fsm.specs.Ticking.{isRx};
 ghost use Rattle.fsm.specs.Starting.{isIdle};

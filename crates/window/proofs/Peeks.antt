@@ -4,7 +4,7 @@ use mathlib.Core.Bool.{Bool, true, false}
 use Prim.Native.Nat.{ℕ, suc, _+_, _-_, _*_, _/_, _%_, _^_, _≤_, _<_}
 use native.Mathlib.Omega.{arith}
 use native.Mathlib.Decide.{decLt}
-use native.Mathlib.Nat.{zero-div, div-one, mul-assoc, mul-comm, add-mul, add-assoc, add-comm, mul-add-div-right}
+use native.Mathlib.Nat.{zero-div, div-one, mul-assoc, mul-comm, add-comm, mul-add-div-right}
 use lib.Dec.{ltb}
 use lib.IntN.{ℤ, pos, negsuc, subℕ, _+ℤ_, +ℤ-comm}
 use lib.ListN.{getD}
@@ -13,7 +13,7 @@ use borrow.Author.Tests.{lt-ltb, le-ltb}
 use Rattle.laws.specs.Packed.{packed}
 use Rattle.laws.specs.Pick.{pick}
 use Rattle.laws.proofs.Picked.{on-true, on-false}
-use Rattle.laws.proofs.Digits.{packed-same, packed-add, packed-bits, packed-lt}
+use Rattle.laws.proofs.Digits.{packed-same, packed-add, packed-bits}
 use Rattle.window.specs.declared.SampleWindow.{SampleWindow}
 use Rattle.window.specs.Window.{tickAt, levelBefore, peekAt}
 use Rattle.window.specs.Code.{byteAt}
@@ -143,23 +143,6 @@ three-bytes w p first second third e1 e2 e3 small small' =
             let place : (p + i) / 8 ≡ p / 8 + 2 = omega (arith, b) in
             let bit : 14 - p % 8 + (10 - 1 - i) ≡ 7 - (p + i) % 8 = omega (arith, b) in
             rw (place, bit, ← e3) (sym (of-third first second third small small' (7 - (p + i) % 8) (omega arith)))
-
-regrouped : (a b c x y : ℕ) → a * (x * y) + (b * y + c) ≡ (a * x + b) * y + c
-regrouped a b c x y = rw (add-mul (a * x) b y, mul-assoc a x y) (sym (add-assoc (a * (x * y)) (b * y) c))
-
-middle : (a b c r : ℕ) → b < 2 ^ 8 → c < 2 ^ r → (a * 2 ^ (8 + r) + (b * 2 ^ r + c)) / 2 ^ r % 256 ≡ b
-middle a b c r small small' =
-    ap (λ x. (a * x + (b * 2 ^ r + c)) / 2 ^ r % 256) (pow-add 2 8 r)
-    ∙ ap (λ x. x / 2 ^ r % 256) (regrouped a b c (2 ^ 8) (2 ^ r))
-    ∙ ap (λ x. x % 256) (high (a * 2 ^ 8 + b) r small')
-    ∙ low a 8 small
-
--- eight of them, j ticks behind the first
-pub eight-of-ten : (j r : ℕ) (f : ℕ → ℕ) → j + (8 + r) ≡ 10 → ((i : ℕ) → f i < 2) → packed 2 10 f / 2 ^ r % 256 ≡ packed 2 8 (λ i. f (j + i))
-eight-of-ten j r f e small =
-    let later : packed 2 r (λ i. f (j + (8 + i))) < 2 ^ r = packed-lt 2 r (λ i. f (j + (8 + i))) (λ i h. small (j + (8 + i))) in
-    let these : packed 2 8 (λ i. f (j + i)) < 2 ^ 8 = packed-lt 2 8 (λ i. f (j + i)) (λ i h. small (j + i)) in
-    rw (← e, packed-add 2 j (8 + r) f, packed-add 2 8 r (λ i. f (j + i))) (middle (packed 2 j f) _ _ r these later)
 
 -- ---- peeks that begin before the start
 pub first-level : (w : SampleWindow) (b : ℕ) → b ≡ byteAt (w .bytes) (w .len) 0 255 → b < 256 → b / 128 ≡ pick (ltb 0 (w .len)) (tickAt w 0) 1

@@ -7,12 +7,12 @@ use native.Mathlib.Nat.{div-one}
 use lib.IntN.{subℕ}
 use borrow.Author.Tests.{lt-ltb}
 use Rattle.laws.proofs.Picked.{on-true}
-use Rattle.laws.proofs.Digits.{packed-same}
+use Rattle.laws.proofs.Digits.{packed-same, packed-part}
 use Rattle.window.specs.declared.SampleWindow.{SampleWindow}
 use Rattle.window.specs.declared.BitPeeks.{BitPeeks}
 use Rattle.window.specs.Window.{windowWith, tickAt, peekAt}
 use Rattle.window.specs.Code.{tenTicks, peeksOf}
-use Rattle.window.proofs.Peeks.{from, eight-of-ten, tick-lt}
+use Rattle.window.proofs.Peeks.{from, tick-lt}
 use Rattle.window.proofs.SampleWindow.peeks_around.Statement.{statement}
 use Rattle.window.proofs.SampleWindow.peeks_around.Tie as tie
 
@@ -23,7 +23,7 @@ unfolding tenTicks tickAt peekAt
 peek-in w p j r at ticks e place within et =
     let q : at - 128 ≡ p + j = omega arith in
     rw (et, from at (omega arith), q, on-true (lt-ltb ((p + j) / 8) (w .len) within))
-    (eight-of-ten j r (λ i. tickAt w (p + i)) e (λ i. tick-lt w (p + i))
+    (packed-part 10 j 8 r (λ i. tickAt w (p + i)) e (λ i. tick-lt w (p + i))
     ∙ packed-same 2 8 (λ i. tickAt w (p + (j + i))) (λ i. tickAt w (p + j + i)) (λ i h. ap (tickAt w) (omega arith)))
 
 abbrev peeks : ℕ → ℕ → ℕ → BitPeeks

@@ -1,0 +1,7 @@
+-- A truth as a digit. Assumes nothing.
+use Prim.Native.Nat.{ℕ}
+use mathlib.Core.Bool.{Bool, true, false}
+
+abbrev pub bit : Bool → ℕ
+bit true = 1
+bit false = 0
