@@ -1,0 +1,5 @@
+pub mod Frame
+pub mod Wave
+pub mod HalfBits
+pub mod Encoding
+pub mod Code
