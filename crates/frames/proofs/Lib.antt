@@ -1,0 +1,13 @@
+pub mod SendingTicks
+pub mod Sending
+pub mod SendingShown
+pub mod Capturing
+pub mod Waving
+pub mod Listening
+pub mod Showing
+pub mod Weighing
+pub mod Reading
+pub mod Bytes
+pub mod Framing
+pub mod FramingShown
+pub mod OneFrame

@@ -1,0 +1,72 @@
+-- Stations that the theorems of Sending speak of: a new one, one that is debouncing, and one that has sent before. Assumes nothing.
+use Prim.Native.Nat.{ℕ}
+use native.Mathlib.Omega.{arith}
+use mathlib.Core.List.{List, [], _∷_}
+use mathlib.Core.Path.{_≡_, refl}
+use Rattle.laws.specs.Pick.{pick}
+use Rattle.laws.specs.Tabulate.{tabulate}
+use Rattle.halfbits.specs.Frame.{bits-8, bits-16, bits-24, bytesOf, bitsOf, frameBits}
+use Rattle.halfbits.specs.Wave.{high, low, bitWave, bitWaves, waveOf, levelAt}
+use Rattle.halfbits.specs.HalfBits.{bufferOf}
+use Rattle.halfbits.specs.Encoding.{isBitCount, frameOf, encodedOf}
+use Rattle.machine.specs.Runs.{heardOf}
+use Rattle.machine.specs.Idle.{idleTick}
+use Rattle.machine.specs.Acting as machine
+use Rattle.fsm.specs.declared.DaliBitbangPhy.{DaliBitbangPhy}
+use Rattle.fsm.specs.Station.{newCore, newStation}
+use Rattle.fsm.specs.Ticking.{isRx, actOf, tickOf}
+use Rattle.reached.specs.Calls.{after, new, called}
+use Rattle.reached.specs.Calls as call
+use Rattle.frames.specs.Ticks.{drives, IsIdle, IsSending, alone}
+use Rattle.frames.specs.Sends.{Start, by-start-tx, by-start-answer, startedBy, Sent}
+use Rattle.frames.specs.NextFrame.{Sending, AllFit, afterSending}
+use Rattle.frames.proofs.Sending.{frame-to-wave, next-frame-to-wave}
+
+-- ---- a new station
+pub new-idle : IsIdle newStation
+unfolding newStation newCore
+new-idle = refl
+
+-- 24 bits, whatever they are
+pub new-sends : (first second third : ℕ) (by : Start)
+    → let frame = bits-24 first second third in Sent by newStation (encodedOf 24 frame .buffer) (frameBits frame)
+unfolding isBitCount frameOf pick
+new-sends first second third by = frame-to-wave 24 first second third refl newStation new new-idle by
+
+-- What that says of some of its ticks: the last one before the wave, the two halves of the start bit, and the end.
+pub new-at-some-ticks : (first second third : ℕ) (by : Start)
+    → let s = startedBy by newStation (encodedOf 24 (bits-24 first second third) .buffer) .station in
+    (drives (alone 3 s) ≡ high) × (drives (alone 4 s) ≡ low) × (drives (alone 8 s) ≡ high) × IsSending (alone 216 s) × IsIdle (alone 217 s)
+unfolding bytesOf bitsOf tabulate levelAt waveOf bitWaves bitWave
+new-at-some-ticks first second third by =
+    let sent = new-sends first second third by .1 in
+    (sent .armed 3 (omega arith), sent .wave 0, sent .wave 4, sent .sending 216 (omega arith), sent .idle 217 (omega arith))
+
+-- ---- one that remembers a low tick
+abbrev pub debouncing : DaliBitbangPhy
+debouncing = after (call.tick low) newStation
+
+pub it-debounces : IsIdle debouncing × (debouncing .core .bus .«rx_debounce» ≡ 1)
+unfolding after tickOf actOf isRx pick machine.actOf idleTick heardOf newStation newCore
+it-debounces = (refl, refl)
+
+-- 16 bits, whatever they are
+pub debouncing-sends : (first second : ℕ) (by : Start)
+    → let frame = bits-16 first second in Sent by debouncing (encodedOf 16 frame .buffer) (frameBits frame)
+unfolding isBitCount frameOf pick
+debouncing-sends first second by = frame-to-wave 16 first second 0 refl debouncing (called (call.tick low) new) (it-debounces .0) by
+
+-- ---- one that has answered 8 bits and sent 16
+abbrev pub before : List Sending
+before = record { by = by-start-answer; bits = frameBits (bits-8 255) } ∷ record { by = by-start-tx; bits = frameBits (bits-16 254 5) } ∷ []
+
+pub before-fit : AllFit before
+unfolding AllFit bytesOf bitsOf tabulate
+before-fit = (omega arith, (omega arith, tt))
+
+-- and now 24, the most that fit
+pub sends-again : (first second third : ℕ) (by : Start)
+    → let bits = frameBits (bits-24 first second third) in Sent by (afterSending before newStation) (bufferOf bits) bits
+unfolding bytesOf bitsOf tabulate
+sends-again first second third by =
+    next-frame-to-wave before before-fit newStation new new-idle (record { by = by; bits = frameBits (bits-24 first second third) }) (omega arith)

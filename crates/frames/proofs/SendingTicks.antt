@@ -1,0 +1,131 @@
+-- What one tick does to a station that sends, or rests, and hears itself alone. Assumes nothing.
+use Prim.Native.Nat.{ℕ, suc, _+_, _-_, _*_, _/_, _%_, _<_}
+use native.Mathlib.Omega.{arith}
+use mathlib.Core.Bool.{Bool, true, false, not}
+use mathlib.Core.List.{List}
+use mathlib.Core.Path.{_≡_, refl, _∙_, ap}
+use lib.Dec.{eqb}
+use lib.ListN.{length, getD}
+use borrow.Author.Tests.{le-leb, lt-leb, eq-eqb, ne-eqb}
+use Rattle.laws.specs.Bit.{bit}
+use Rattle.laws.specs.Packed.{packed}
+use Rattle.laws.specs.Pick.{pick}
+use Rattle.laws.proofs.Digits.{packed-digit, bit-lt}
+use Rattle.laws.proofs.Picked.{on-true, on-false}
+use Rattle.laws.proofs.Tabulated.{getD-tabulate}
+use Rattle.halfbits.specs.Wave.{high, low, levelAt}
+use Rattle.halfbits.specs.HalfBits.{pulls, storeOf, halfBitsOf}
+use Rattle.halfbits.proofs.Levels.{not-not}
+use Rattle.machine.specs.declared.CollisionPolicy.{CollisionPolicy}
+use Rattle.machine.specs.declared.TxStep.{TxStep}
+use Rattle.machine.specs.declared.TxStep.the-variants.{Arm, End, Hold, Drive}
+use Rattle.machine.specs.declared.Tx.{Tx}
+use Rattle.machine.specs.Runs.{heardOf}
+use Rattle.machine.specs.BecomingIdle.{idled}
+use Rattle.machine.specs.Idle.{idleTick}
+use Rattle.machine.specs.Sending.{clashOf, releasesAt, txStep, armed, held, driven, stepped, txTick}
+use Rattle.machine.specs.Acting as machine
+use Rattle.fsm.specs.declared.DaliBitbangPhy.{DaliBitbangPhy}
+use Rattle.fsm.specs.Station.{withCore}
+use Rattle.fsm.specs.Ticking.{isRx, actOf, tickOf}
+use Rattle.frames.specs.Ticks.{drives, IsIdle, IsSending}
+use Rattle.frames.specs.Sends.{FitsBuffer}
+
+-- ---- a half-bit of the store
+is-zero : (b : Bool) → eqb (bit b) 0 ≡ not b
+is-zero true = refl
+is-zero false = refl
+
+-- what the sender reads there is the level of the wave
+read-back : (bits : List Bool) (j : ℕ) → j < 56 → releasesAt (getD (storeOf bits) (j / 8) 0) j ≡ levelAt bits (4 * j)
+unfolding releasesAt storeOf pulls
+read-back bits j h =
+    let byte : ℕ → ℕ = λ i. packed 2 8 (λ k. bit (pulls bits (8 * i + k))) in
+    let digit : ℕ → ℕ = λ k. bit (pulls bits (8 * (j / 8) + k)) in
+    let place : 8 * (j / 8) + j % 8 ≡ j = omega arith in
+    ap (λ x. releasesAt x j) (getD-tabulate 7 (j / 8) byte 0 (omega arith))
+    ∙ ap (λ x. eqb x 0) (packed-digit 2 8 (j % 8) (7 - j % 8) digit (omega arith) (λ k. bit-lt (pulls bits (8 * (j / 8) + k))))
+    ∙ ap (λ k. eqb (bit (pulls bits k)) 0) place
+    ∙ is-zero (pulls bits j)
+    ∙ not-not (levelAt bits (4 * j))
+
+-- ---- a station that sends
+-- a tick of one that hears itself
+abbrev pub next : DaliBitbangPhy → DaliBitbangPhy
+next s = tickOf s (drives s)
+
+-- It sends these bits: so many ticks are armed, so many half-bits are begun, so many ticks of the last of them are left, and this is the
+-- level that it drives.
+pub record Sender (bits : List Bool) (ticks half-bits left : ℕ) (level : Bool) (s : DaliBitbangPhy) : Type 0 where
+  pub state : IsSending s
+  pub store : s .«tx_hb» .«tx_hb_data» ≡ storeOf bits
+  pub loads : s .«tx_hb» .«tx_hb_len» ≡ halfBitsOf (length bits)
+  pub arms : s .core .tx .«tx_armed» ≡ ticks
+  pub begun : s .core .tx .«tx_hb_cnt» ≡ half-bits
+  pub spaces : s .core .tx .«tx_sp_cnt» ≡ left
+  pub line : drives s ≡ level
+  -- its own low tick is on no released half-bit
+  pub pulled : drives s ≡ low → s .core .tx .«tx_high» ≡ 0
+
+abbrev ruleOf : DaliBitbangPhy → TxStep
+ruleOf s = txStep (s .core .tx) (s .core .«collision_policy») (s .«tx_hb») (drives s)
+
+by-rule : (s : DaliBitbangPhy) {rule : TxStep} → IsSending s → ruleOf s ≡ rule → next s ≡ withCore s (stepped rule (heardOf (s .core) (drives s)))
+unfolding tickOf actOf isRx pick machine.actOf txTick heardOf
+by-rule s e f = rw (e, f)
+
+-- whatever the policy
+no-clash : (tx : Tx) (policy : CollisionPolicy) (len : ℕ) (level : Bool) → (level ≡ low → tx .«tx_high» ≡ 0) → clashOf tx policy len level ≡ false
+unfolding clashOf pick
+no-clash tx policy len true pulled = refl
+no-clash tx policy len false pulled = on-true (eq-eqb (tx .«tx_high») 0 (pulled refl)) _ _
+
+some-left : (n : ℕ) → eqb (suc n) 0 ≡ false
+some-left n = ne-eqb (suc n) 0 (λ e. omega (arith, e))
+
+module _ (bits : List Bool) where
+  pub arm : {ticks : ℕ} {s : DaliBitbangPhy} → Sender bits (suc ticks) 0 0 high s → Sender bits ticks 0 0 high (next s)
+  unfolding stepped armed heardOf txStep
+  arm {ticks} {s} a =
+      let rule : ruleOf s ≡ Arm = on-false (ap (λ n. eqb n 0) (a .arms) ∙ some-left ticks) _ _ ∙ on-true (a .line) _ _ in
+      rw (by-rule s (a .state) rule)
+      (record { state = a .state; store = a .store; loads = a .loads; arms = omega arith; begun = a .begun; spaces = a .spaces; line = a .line; pulled = a .pulled })
+
+  module _ (fits : FitsBuffer bits) {j : ℕ} (more : j < halfBitsOf (length bits)) {level : Bool} {s : DaliBitbangPhy} where
+    -- not armed, and not every half-bit is begun
+    holds-or-drives : {left : ℕ} → Sender bits 0 j left level s → ruleOf s ≡ pick (eqb left 0) (Drive (levelAt bits (4 * j))) Hold
+    unfolding txStep
+    holds-or-drives {left} a =
+        let drives-wave = on-false (lt-leb 7 (j / 8) (omega arith)) _ _ ∙ ap Drive (read-back bits j (omega arith)) in
+        on-true (ap (λ n. eqb n 0) (a .arms)) _ _
+        ∙ on-false (lt-leb (s .«tx_hb» .«tx_hb_len») (s .core .tx .«tx_hb_cnt») (omega arith)) _ _
+        ∙ on-false (no-clash (s .core .tx) _ _ (drives s) (a .pulled)) _ _
+        ∙ rw (a .spaces, a .begun, a .store) (ap (λ rule. pick (eqb left 0) rule Hold) drives-wave)
+
+    pub hold : {left : ℕ} → Sender bits 0 j (suc left) level s → Sender bits 0 j left level (next s)
+    unfolding stepped held heardOf
+    hold {left} a =
+        rw (by-rule s (a .state) (holds-or-drives a ∙ on-false (some-left left) _ _))
+        (record { state = a .state; store = a .store; loads = a .loads; arms = a .arms; begun = a .begun; spaces = omega arith; line = a .line; pulled = a .pulled })
+
+    pub drive : Sender bits 0 j 0 level s → Sender bits 0 (j + 1) 3 (levelAt bits (4 * j)) (next s)
+    unfolding stepped driven heardOf
+    drive a =
+        rw (by-rule s (a .state) (holds-or-drives a ∙ on-true refl _ _))
+        (record { state = a .state; store = a .store; loads = a .loads; arms = a .arms; begun = omega arith; spaces = refl; line = refl; pulled = λ e. ap bit e })
+
+-- ---- an Idle station that leaves the line high
+abbrev pub Rests : DaliBitbangPhy → Type 0
+Rests s = IsIdle s × (drives s ≡ high)
+
+-- every half-bit is begun
+pub finish : (bits : List Bool) {left : ℕ} {level : Bool} {s : DaliBitbangPhy} → Sender bits 0 (halfBitsOf (length bits)) left level s → Rests (next s)
+unfolding stepped idled txStep
+finish bits {s = s} a =
+    let all = le-leb (s .«tx_hb» .«tx_hb_len») (s .core .tx .«tx_hb_cnt») (omega arith) in
+    let rule : ruleOf s ≡ End = on-true (ap (λ n. eqb n 0) (a .arms)) _ _ ∙ on-true all _ _ in
+    rw (by-rule s (a .state) rule) (refl, refl)
+
+pub rest : (s : DaliBitbangPhy) → Rests s → Rests (next s)
+unfolding tickOf actOf isRx pick machine.actOf idleTick heardOf
+rest s r = rw (r .0, r .1) (refl, refl)

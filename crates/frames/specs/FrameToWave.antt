@@ -1,0 +1,22 @@
+-- Demand 2, from frame to wave. Assumes nothing.
+use Prim.Native.Nat.{ℕ}
+use mathlib.Core.Bool.{Bool, true}
+use mathlib.Core.List.{List}
+use mathlib.Core.Path.{_≡_}
+use Rattle.halfbits.specs.Frame.{frameBits}
+use Rattle.halfbits.specs.HalfBits.{bufferOf}
+use Rattle.halfbits.specs.Encoding.{isBitCount, frameOf, encodedOf}
+use Rattle.fsm.specs.declared.DaliBitbangPhy.{DaliBitbangPhy}
+use Rattle.reached.specs.Calls.{Reached}
+use Rattle.frames.specs.Ticks.{IsIdle}
+use Rattle.frames.specs.Sends.{Start, FitsBuffer, Sent}
+
+-- Any Idle station that calls lead to, whatever they were, sends any bits that fit.
+abbrev pub BitsToWave : Type 0
+BitsToWave = (bits : List Bool) → FitsBuffer bits → (s : DaliBitbangPhy) → Reached s → IsIdle s → (by : Start) → Sent by s (bufferOf bits) bits
+
+-- And so it sends a frame of 8, 16 or 24 bits that the encoder gave it.
+abbrev pub FrameToWave : Type 0
+FrameToWave =
+    (bits first second third : ℕ) → isBitCount bits ≡ true → (s : DaliBitbangPhy) → Reached s → IsIdle s → (by : Start)
+    → let frame = frameOf bits first second third in Sent by s (encodedOf bits frame .buffer) (frameBits frame)

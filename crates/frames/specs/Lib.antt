@@ -1,0 +1,7 @@
+pub mod Ticks
+pub mod Sends
+pub mod FrameToWave
+pub mod NextFrame
+pub mod ReadAs
+pub mod WaveToFrame
+pub mod OneFrame

@@ -1,0 +1,30 @@
+-- Demand 2, from frame to wave: every other frame of a station is sent as its first. Assumes nothing.
+use mathlib.Core.Bool.{Bool}
+use mathlib.Core.List.{List, [], _∷_}
+use lib.ListN.{length}
+use Rattle.halfbits.specs.HalfBits.{bufferOf}
+use Rattle.fsm.specs.declared.DaliBitbangPhy.{DaliBitbangPhy}
+use Rattle.reached.specs.Calls.{Reached}
+use Rattle.frames.specs.Ticks.{IsIdle, alone}
+use Rattle.frames.specs.Sends.{Start, startedBy, FitsBuffer, idleAt, Sent}
+
+-- bits to be sent, and the call that is given them
+pub record Sending : Type 0 where
+  pub by : Start
+  pub bits : List Bool
+
+unfoldable pub AllFit : List Sending → Type 0
+AllFit [] = Unit {0}
+AllFit (one ∷ more) = FitsBuffer (one .bits) × AllFit more
+
+-- the station that has sent these one after the other, each once it was Idle
+unfoldable pub afterSending : List Sending → DaliBitbangPhy → DaliBitbangPhy
+afterSending [] s = s
+afterSending (one ∷ more) s =
+    afterSending more (alone (idleAt (length (one .bits))) (startedBy (one .by) s (bufferOf (one .bits)) .station))
+
+-- The second frame is sent as the first was, and the hundredth too.
+abbrev pub NextFrameToWave : Type 0
+NextFrameToWave =
+    (before : List Sending) → AllFit before → (s : DaliBitbangPhy) → Reached s → IsIdle s
+    → (next : Sending) → FitsBuffer (next .bits) → Sent (next .by) (afterSending before s) (bufferOf (next .bits)) (next .bits)

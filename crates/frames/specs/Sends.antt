@@ -1,0 +1,45 @@
+-- What it means that a station sends bits. Assumes nothing.
+use Prim.Native.Nat.{ℕ, _+_, _*_, _≤_, _<_}
+use mathlib.Core.Bool.{Bool}
+use mathlib.Core.List.{List}
+use mathlib.Core.Path.{_≡_}
+use lib.ListN.{length}
+use Rattle.halfbits.specs.declared.HalfBitBuffer.{HalfBitBuffer}
+use Rattle.halfbits.specs.Wave.{high, levelAt}
+use Rattle.halfbits.specs.HalfBits.{halfBitsOf}
+use Rattle.fsm.specs.declared.DaliBitbangPhy.{DaliBitbangPhy}
+use Rattle.fsm.specs.declared.Started.{Started}
+use Rattle.fsm.specs.declared.StartAnswer.the-variants as start
+use Rattle.fsm.specs.Starting.{startTx, startAnswer}
+use Rattle.frames.specs.Ticks.{drives, IsIdle, IsSending, alone}
+
+-- ---- what is sent
+-- the two calls that start a frame
+pub data Start : Type 0 where
+  by-start-tx : Start
+  by-start-answer : Start
+
+unfoldable pub startedBy : Start → DaliBitbangPhy → HalfBitBuffer → Started
+startedBy by-start-tx s hb = startTx s hb
+startedBy by-start-answer s hb = startAnswer s hb
+
+-- as many bits as a half-bit buffer has room for
+abbrev pub FitsBuffer : List Bool → Type 0
+FitsBuffer bits = halfBitsOf (length bits) ≤ 54
+
+-- the tick at which the station is Idle again: 89, 153 and 217 for 8, 16 and 24 bits
+abbrev pub idleAt : ℕ → ℕ
+idleAt bits = 8 * bits + 25
+
+-- ---- what is driven
+-- A started station that hears itself alone drives three high ticks and then, from tick 4 on, the wave and nothing else; tick 0 is the
+-- start itself. It is sending until it is Idle again.
+pub record Sends (bits : List Bool) (s : DaliBitbangPhy) : Type 0 where
+  pub armed : (tick : ℕ) → tick < 4 → drives (alone tick s) ≡ high
+  pub wave : (tick : ℕ) → drives (alone (4 + tick) s) ≡ levelAt bits tick
+  pub sending : (tick : ℕ) → tick < idleAt (length bits) → IsSending (alone tick s)
+  pub idle : (tick : ℕ) → idleAt (length bits) ≤ tick → IsIdle (alone tick s)
+
+-- The start is not refused, and the frame is sent.
+abbrev pub Sent : Start → DaliBitbangPhy → HalfBitBuffer → List Bool → Type 0
+Sent by s hb bits = (startedBy by s hb .answer ≡ start.Started) × Sends bits (startedBy by s hb .station)
