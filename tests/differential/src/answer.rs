@@ -1,9 +1,10 @@
-//! The protocol answered over the unchanged Rust.
+//! The protocol answered over the unchanged Rust, and the encoder's commands over our own.
 
 use crate::command::{
     push_byte_string_field, push_decode, push_hex_field, push_number, push_number_field, Capture,
     Command, Rank,
 };
+use crate::encoder::Frame;
 use crate::fsm::{
     restart_gate_for, settle_ticks_on_wire, BusState, RxCompletedEvent, RxState, TxPollResult,
 };
@@ -12,7 +13,7 @@ use crate::manchester::{
     PhaseSearch, SampleWindow, DECODED_BYTES,
 };
 use crate::original::rx_decode::{RxDecode, SniffedDecode, SniffedFrame};
-use crate::station::{Refusal, Station};
+use crate::station::{HalfBits, Refusal, Station};
 
 const BAD_LINE: &[u8] = b"?";
 const MOST_STEPS: u8 = 5;
@@ -103,6 +104,11 @@ impl Session {
             Command::Held { capture } => {
                 push_number(out, i32::from(event(capture).is_line_held()));
             }
+            Command::Encode { frame } => match frame.encode() {
+                Ok(half_bits) => push_half_bits(out, &half_bits),
+                Err(refusal) => push_refused(out, refusal as i32),
+            },
+            Command::EncodeBuf { frame, buffer } => push_encoded_into(out, frame, buffer.clone()),
             Command::New => {
                 self.station = Station::new();
                 push_ok(out);
@@ -143,6 +149,16 @@ impl Session {
             Command::Gate { ticks } => push_number(out, i32::from(restart_gate_for(*ticks))),
         }
     }
+}
+
+/// The answers to a whole script; its last line may lack the LF.
+pub fn answers(script: &[u8]) -> Vec<u8> {
+    let mut session = Session::new();
+    let mut answers = Vec::new();
+    for line in script.split_inclusive(|byte| *byte == b'\n') {
+        session.answer(line.strip_suffix(b"\n").unwrap_or(line), &mut answers);
+    }
+    answers
 }
 
 /// The Rust's search beside the count of steps, which the Rust has not.
@@ -270,14 +286,29 @@ fn push_frame(out: &mut Vec<u8>, word: &[u8], bytes: &[u8]) {
     push_byte_string_field(out, bytes);
 }
 
+pub fn push_half_bits(out: &mut Vec<u8>, half_bits: &HalfBits) {
+    push_number(out, i32::from(half_bits.len));
+    push_hex_field(out, &half_bits.data);
+}
+
+fn push_encoded_into(out: &mut Vec<u8>, frame: &Frame, mut buffer: Vec<u8>) {
+    match frame.encode_into(&mut buffer) {
+        Ok(half_bits) => push_number(out, i32::from(half_bits)),
+        Err(refusal) => push_refused(out, refusal as i32),
+    }
+    push_byte_string_field(out, &buffer);
+}
+
 fn push_start(out: &mut Vec<u8>, refusal: Option<Refusal>) {
     match refusal {
         None => push_ok(out),
-        Some(number) => {
-            out.extend_from_slice(b"refused");
-            push_number_field(out, number as i32);
-        }
+        Some(number) => push_refused(out, number as i32),
     }
+}
+
+fn push_refused(out: &mut Vec<u8>, number: i32) {
+    out.extend_from_slice(b"refused");
+    push_number_field(out, number);
 }
 
 fn push_state(out: &mut Vec<u8>, station: &Station) {

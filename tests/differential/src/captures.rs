@@ -4,12 +4,12 @@
 use std::ops::Range;
 
 use crate::command::{Capture, SAMPLES};
+use crate::encoder::HALF_BIT_TICKS;
 use crate::random::Random;
 
 pub const TICKS: usize = 8 * SAMPLES;
-const HALF_BIT_TICKS: u8 = 4;
 /// A station ends a capture on this many high ticks running.
-const IDLE_TICKS: usize = 16;
+pub const IDLE_TICKS: usize = 16;
 
 const USUAL_BYTES: [u8; 16] = [
     0x0F, 0xF0, 0x00, 0xFF, 0x1E, 0xE1, 0x3C, 0xC3, 0x7F, 0x80, 0xFE, 0x01, 0x87, 0x78, 0x1F, 0xF8,
@@ -283,7 +283,7 @@ fn bit_of_seven_ticks(random: &mut Random) -> [u8; 2] {
 }
 
 fn bit_of_eight_ticks(_: &mut Random) -> [u8; 2] {
-    [HALF_BIT_TICKS; 2]
+    [HALF_BIT_TICKS as u8; 2]
 }
 
 fn bit_of_nine_ticks(random: &mut Random) -> [u8; 2] {

@@ -1,5 +1,6 @@
 //! The protocol's commands as values: read from a line, and written as one.
 
+use crate::encoder::{Frame, FRAME_BYTES};
 use crate::fsm::CollisionPolicy;
 use crate::levels::Levels;
 use crate::manchester::{PhaseDecode, DECODED_BYTES};
@@ -87,6 +88,13 @@ pub enum Command {
     Held {
         capture: Capture,
     },
+    Encode {
+        frame: Frame,
+    },
+    EncodeBuf {
+        frame: Frame,
+        buffer: Vec<u8>,
+    },
     New,
     Policy {
         policy: CollisionPolicy,
@@ -115,7 +123,7 @@ pub enum Command {
     },
 }
 
-pub const NAMES: [&str; 27] = [
+pub const NAMES: [&str; 29] = [
     "weight",
     "phase",
     "search",
@@ -130,6 +138,8 @@ pub const NAMES: [&str; 27] = [
     "backward",
     "lowrun",
     "held",
+    "encode",
+    "encodebuf",
     "new",
     "policy",
     "tick",
@@ -145,13 +155,19 @@ pub const NAMES: [&str; 27] = [
     "gate",
 ];
 
-/// The names of the reading commands are those from this one to before the station's.
+/// The names of the reading commands are those from this one to before the encoder's.
 const FIRST_READING: usize = 9;
+/// The names of the encoder's commands are those from this one to before the station's.
+const FIRST_OF_ENCODER: usize = 14;
 /// The names of the station's commands are those from this one on.
-const FIRST_OF_STATION: usize = 14;
+const FIRST_OF_STATION: usize = 16;
 
 pub fn is_reading(number: usize) -> bool {
-    (FIRST_READING..FIRST_OF_STATION).contains(&number)
+    (FIRST_READING..FIRST_OF_ENCODER).contains(&number)
+}
+
+pub fn is_of_encoder(number: usize) -> bool {
+    (FIRST_OF_ENCODER..FIRST_OF_STATION).contains(&number)
 }
 
 pub fn is_of_station(number: usize) -> bool {
@@ -176,21 +192,23 @@ impl Command {
             Command::Backward { .. } => 11,
             Command::LowRun { .. } => 12,
             Command::Held { .. } => 13,
-            Command::New => 14,
-            Command::Policy { .. } => 15,
-            Command::Tick { .. } => 16,
-            Command::Ticks { .. } => 17,
+            Command::Encode { .. } => 14,
+            Command::EncodeBuf { .. } => 15,
+            Command::New => 16,
+            Command::Policy { .. } => 17,
+            Command::Tick { .. } => 18,
+            Command::Ticks { .. } => 19,
             Command::Start { start, .. } => match start {
-                Start::Tx => 18,
-                Start::Answer => 19,
+                Start::Tx => 20,
+                Start::Answer => 21,
             },
-            Command::Poll => 20,
-            Command::TakeIdle => 21,
-            Command::TakeRx => 22,
-            Command::Ack => 23,
-            Command::State => 24,
-            Command::Settle { .. } => 25,
-            Command::Gate { .. } => 26,
+            Command::Poll => 22,
+            Command::TakeIdle => 23,
+            Command::TakeRx => 24,
+            Command::Ack => 25,
+            Command::State => 26,
+            Command::Settle { .. } => 27,
+            Command::Gate { .. } => 28,
         }
     }
 
@@ -263,6 +281,13 @@ impl Command {
             },
             b"held" => Command::Held {
                 capture: fields.capture()?,
+            },
+            b"encode" => Command::Encode {
+                frame: fields.frame()?,
+            },
+            b"encodebuf" => Command::EncodeBuf {
+                frame: fields.frame()?,
+                buffer: fields.byte_string()?,
             },
             b"new" => Command::New,
             b"policy" => Command::Policy {
@@ -351,6 +376,11 @@ impl Command {
             Command::SniffDec {
                 found: Some(decode),
             } => push_decode(out, decode),
+            Command::Encode { frame } => push_unencoded(out, frame),
+            Command::EncodeBuf { frame, buffer } => {
+                push_unencoded(out, frame);
+                push_byte_string_field(out, buffer);
+            }
             Command::Policy { policy } => {
                 out.push(b' ');
                 out.extend_from_slice(policy_word(*policy));
@@ -472,6 +502,15 @@ impl<'a> Fields<'a> {
         }
         let rank = self.rank()?;
         Some(Some(rank.with_data(self.bytes()?)))
+    }
+
+    fn frame(&mut self) -> Option<Frame> {
+        let bits = self.u8()?;
+        let mut bytes = [0; FRAME_BYTES];
+        for byte in &mut bytes {
+            [*byte] = self.bytes()?;
+        }
+        Some(Frame { bits, bytes })
     }
 
     fn byte_string(&mut self) -> Option<Vec<u8>> {
@@ -601,6 +640,13 @@ pub fn push_number_field(out: &mut Vec<u8>, value: i32) {
 fn push_capture(out: &mut Vec<u8>, capture: &Capture) {
     push_number_field(out, i32::from(capture.count));
     push_hex_field(out, &capture.samples);
+}
+
+fn push_unencoded(out: &mut Vec<u8>, frame: &Frame) {
+    push_number_field(out, i32::from(frame.bits));
+    for byte in frame.bytes {
+        push_hex_field(out, &[byte]);
+    }
 }
 
 fn push_rank(out: &mut Vec<u8>, rank: &Rank) {

@@ -1,16 +1,14 @@
 //! Another program's answers held to the Rust's, byte by byte.
 
-use std::io::{self, Read, Write};
-use std::process::{Child, ChildStdout, Command as Process, ExitStatus, Stdio};
+use std::io;
+use std::process::Stdio;
 use std::sync::Arc;
-use std::thread::{self, JoinHandle};
 
-use crate::answer::Session;
-use crate::command::{is_of_station, is_reading, Command, NAMES};
+use crate::answer::{answers, Session};
+use crate::command::{is_of_encoder, is_of_station, is_reading, Command, NAMES};
 use crate::generate::{Generator, Kind};
+use crate::program::{first_difference, printable, Difference, Run};
 use crate::shrink;
-
-const PAST_EXPECTED: usize = 4096;
 
 pub struct Task {
     pub program: String,
@@ -76,114 +74,6 @@ fn next_batch(generator: &mut Generator, left: &mut usize, size: usize) -> Optio
     })
 }
 
-/// A run of the program on a script. Writing and reading have a thread each, so that no full pipe
-/// stops the program, or both sides.
-struct Run {
-    child: Child,
-    writer: JoinHandle<()>,
-    reader: JoinHandle<io::Result<Vec<u8>>>,
-}
-
-/// What the program wrote, and how it ended.
-struct Said {
-    text: Vec<u8>,
-    status: ExitStatus,
-}
-
-impl Run {
-    fn start(
-        program: &str,
-        script: Arc<Vec<u8>>,
-        expected: usize,
-        errors: Stdio,
-    ) -> io::Result<Self> {
-        let mut child = Process::new(program)
-            .stdin(Stdio::piped())
-            .stdout(Stdio::piped())
-            .stderr(errors)
-            .spawn()?;
-        let input = child.stdin.take();
-        let output = child.stdout.take();
-        let writer = thread::spawn(move || {
-            // A program that stops reading shows itself by what it doesn't answer.
-            let _ = input.map(|mut pipe| pipe.write_all(&script));
-        });
-        let reader = thread::spawn(move || match output {
-            Some(pipe) => read_at_most(pipe, expected + PAST_EXPECTED),
-            None => Ok(Vec::new()),
-        });
-        Ok(Self {
-            child,
-            writer,
-            reader,
-        })
-    }
-
-    fn end(mut self) -> io::Result<Said> {
-        let text = joined(self.reader)??;
-        joined(self.writer)?;
-        let status = self.child.wait()?;
-        Ok(Said { text, status })
-    }
-}
-
-/// A program may never stop writing; one that writes more than this finds its pipe closed.
-fn read_at_most(pipe: ChildStdout, most: usize) -> io::Result<Vec<u8>> {
-    let mut text = Vec::with_capacity(most);
-    pipe.take(most as u64).read_to_end(&mut text)?;
-    Ok(text)
-}
-
-fn joined<T>(thread: JoinHandle<T>) -> io::Result<T> {
-    thread
-        .join()
-        .map_err(|_| io::Error::other("a thread at the program's pipes failed"))
-}
-
-/// The first line, counted from 0, on which the answers part, and both answers to it.
-struct Difference {
-    line: usize,
-    rust: Vec<u8>,
-    program: Vec<u8>,
-}
-
-fn first_difference(script: &[u8], answers: &[u8], said: &Said) -> Option<Difference> {
-    if said.text != answers {
-        let mut rust = answers.split_inclusive(|byte| *byte == b'\n');
-        let mut program = said.text.split_inclusive(|byte| *byte == b'\n');
-        for line in 0.. {
-            let (expected, got) = (rust.next(), program.next());
-            if expected != got {
-                return Some(Difference {
-                    line,
-                    rust: shown(expected, b"(no more lines)"),
-                    program: shown(got, ended(said).as_bytes()),
-                });
-            }
-        }
-    }
-    if said.status.success() {
-        return None;
-    }
-    Some(Difference {
-        line: script.iter().filter(|byte| **byte == b'\n').count() - 1,
-        rust: b"(every line was answered as by the Rust)".to_vec(),
-        program: ended(said).into_bytes(),
-    })
-}
-
-fn shown(answer: Option<&[u8]>, missing: &[u8]) -> Vec<u8> {
-    match answer {
-        Some([text @ .., b'\n']) => text.to_vec(),
-        Some(text) => [text, b" (and no LF)"].concat(),
-        None => missing.to_vec(),
-    }
-}
-
-fn ended(said: &Said) -> String {
-    format!("(no more lines; the program ended with {})", said.status)
-}
-
 fn report(task: &Task, before: &Tally, batch: &Batch, difference: &Difference) -> io::Result<()> {
     let lines: Vec<&[u8]> = batch.script.split(|byte| *byte == b'\n').collect();
     let at = difference.line.min(lines.len() - 2);
@@ -194,13 +84,18 @@ fn report(task: &Task, before: &Tally, batch: &Batch, difference: &Difference) -
         at + 1
     );
     println!("  command: {}", printable(lines[at]));
-    println!("  Rust:    {}", printable(&difference.rust));
-    println!("  program: {}", printable(&difference.program));
+    println!("  Rust:    {}", printable(&difference.expected));
+    println!("  program: {}", printable(&difference.told));
+    look_for_smallest(&task.program, &lines[..=at])
+}
+
+/// Prints the smallest commands that still show a difference to the Rust, which these lines showed.
+pub fn look_for_smallest(program: &str, lines: &[&[u8]]) -> io::Result<()> {
     println!("Looking for the smallest command that shows it ...");
-    let script = lines[..=at].iter().map(|line| line.to_vec()).collect();
-    let mut differs = |script: &[Vec<u8>]| matches!(trial(&task.program, script), Ok(Some(_)));
+    let script = lines.iter().map(|line| line.to_vec()).collect();
+    let mut differs = |script: &[Vec<u8>]| matches!(trial(program, script), Ok(Some(_)));
     match shrink::smallest(script, &mut differs) {
-        Some(small) => report_smallest(&task.program, &small),
+        Some(small) => report_smallest(program, &small),
         None => {
             println!("A second run of the lines up to this one showed no difference: the program");
             println!("does not always answer alike, or fails only on the batch's later lines.");
@@ -213,28 +108,22 @@ fn report_smallest(program: &str, script: &[Vec<u8>]) -> io::Result<()> {
     println!("Smallest:");
     println!("  {}", shell_line(program, script));
     if let Some(difference) = trial(program, script)? {
-        println!("  Rust:    {}", printable(&difference.rust));
-        println!("  program: {}", printable(&difference.program));
+        println!("  Rust:    {}", printable(&difference.expected));
+        println!("  program: {}", printable(&difference.told));
     }
     Ok(())
 }
 
 fn trial(program: &str, lines: &[Vec<u8>]) -> io::Result<Option<Difference>> {
     let mut script = Vec::new();
-    let mut answers = Vec::new();
-    let mut session = Session::new();
     for line in lines {
-        session.answer(line, &mut answers);
         script.extend_from_slice(line);
         script.push(b'\n');
     }
+    let answers = answers(&script);
     let script = Arc::new(script);
     let said = Run::start(program, script.clone(), answers.len(), Stdio::null())?.end()?;
     Ok(first_difference(&script, &answers, &said))
-}
-
-fn printable(text: &[u8]) -> String {
-    text.escape_ascii().to_string()
 }
 
 fn shell_line(program: &str, script: &[Vec<u8>]) -> String {
@@ -328,10 +217,11 @@ impl Tally {
             }
         }
         text.push_str(&format!(
-            "bad {}), {} decode_phase answers, {} reading commands, {} station commands and {} ticks among them",
+            "bad {}), {} decode_phase answers, {} reading commands, {} encoder commands, {} station commands and {} ticks among them",
             self.bad_lines(),
             self.named("phase"),
             self.of(is_reading),
+            self.of(is_of_encoder),
             self.of(is_of_station),
             self.ticks
         ));

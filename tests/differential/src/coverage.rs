@@ -1,12 +1,13 @@
-//! How often a script brings a station into each situation that its answers hang on.
+//! How often a script brings a station, or the encoder, into each situation that its answers hang on.
 
+use std::cmp::Ordering;
 use std::collections::BTreeMap;
 
 use crate::answer::{bus_word, Session};
-use crate::command::{is_of_station, Command};
+use crate::command::{is_of_encoder, is_of_station, Command};
 use crate::fsm::BusState;
 use crate::generate::Generator;
-use crate::station::Station;
+use crate::station::{Station, HALF_BIT_BYTES};
 
 /// One situation a line, with how often it came.
 pub fn table(generator: &mut Generator, lines: usize) -> String {
@@ -43,8 +44,20 @@ impl Coverage {
                 levels.iter().for_each(|high| self.count_tick(high));
             }
             Some(command) if is_of_station(command.number()) => self.count_call(&command),
+            Some(command) if is_of_encoder(command.number()) => self.count_encoding(&command),
             Some(_) => {}
         }
+    }
+
+    fn count_encoding(&mut self, command: &Command) {
+        let mut answer = Vec::new();
+        self.session.answer_command(command, &mut answer);
+        let size = match command {
+            Command::EncodeBuf { buffer, .. } => size_word(buffer.len()),
+            _ => "",
+        };
+        let told = without_bytes(&String::from_utf8_lossy(&answer));
+        self.count(format!("{}{size}: {told}", command.name()));
     }
 
     fn count_call(&mut self, command: &Command) {
@@ -85,6 +98,24 @@ impl Coverage {
                 self.count(situation.to_string());
             }
         }
+    }
+}
+
+fn size_word(bytes: usize) -> &'static str {
+    match bytes.cmp(&HALF_BIT_BYTES) {
+        Ordering::Less => " into fewer than 7 bytes",
+        Ordering::Equal => " into 7 bytes",
+        Ordering::Greater => " into more than 7 bytes",
+    }
+}
+
+/// What the encoder tells: half-bits, or a refusal.
+fn without_bytes(answer: &str) -> String {
+    let fields: Vec<&str> = answer.split(' ').collect();
+    match fields[..] {
+        ["refused", number, ..] => format!("refused {number}"),
+        [half_bits, ..] => half_bits.to_string(),
+        [] => String::new(),
     }
 }
 

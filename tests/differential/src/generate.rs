@@ -4,9 +4,10 @@ use std::collections::VecDeque;
 
 use crate::captures::{answer_capture, any_capture, low_run_capture};
 use crate::command::{
-    is_reading, push_byte_string_field, push_number_field, Command, Rank, LONGEST_LINE, MOST_TICKS,
-    NAMES,
+    is_of_encoder, is_reading, push_byte_string_field, push_number_field, Command, Rank,
+    LONGEST_LINE, MOST_TICKS, NAMES,
 };
+use crate::encoder::{Frame, FRAME_BYTES};
 use crate::manchester::PhaseDecode;
 use crate::random::Random;
 use crate::station_lines::{any_gate, any_settle, Pace, StationLines};
@@ -20,6 +21,7 @@ pub enum Kind {
     Everything,
     Decoders,
     Readings,
+    Encoder,
     Station,
     /// The station's commands, with most of the ticks in long lines.
     StationLong,
@@ -35,6 +37,8 @@ pub enum Kind {
     Backward,
     LowRun,
     Held,
+    Encode,
+    EncodeBuf,
     Settle,
     Gate,
 }
@@ -46,6 +50,7 @@ impl Kind {
         Some(match name {
             "decoders" => Kind::Decoders,
             "readings" => Kind::Readings,
+            "encoder" => Kind::Encoder,
             "station" | "new" | "policy" | "tick" | "ticks" | "start_tx" | "start_answer"
             | "poll" | "take_idle" | "take_rx" | "ack" | "state" => Kind::Station,
             "station-long" => Kind::StationLong,
@@ -61,6 +66,8 @@ impl Kind {
             "backward" => Kind::Backward,
             "lowrun" => Kind::LowRun,
             "held" => Kind::Held,
+            "encode" => Kind::Encode,
+            "encodebuf" => Kind::EncodeBuf,
             "settle" => Kind::Settle,
             "gate" => Kind::Gate,
             _ => return None,
@@ -70,7 +77,12 @@ impl Kind {
     fn has_bad_lines(self) -> bool {
         matches!(
             self,
-            Kind::Everything | Kind::Decoders | Kind::Readings | Kind::Station | Kind::StationLong
+            Kind::Everything
+                | Kind::Decoders
+                | Kind::Readings
+                | Kind::Encoder
+                | Kind::Station
+                | Kind::StationLong
         )
     }
 }
@@ -117,8 +129,13 @@ impl Generator {
         let random = &mut self.random;
         match kind {
             Kind::Everything => {
-                let part = random.pick(&[Kind::Decoders, Kind::Readings, Kind::Station]);
+                let part =
+                    random.pick(&[Kind::Decoders, Kind::Readings, Kind::Encoder, Kind::Station]);
                 self.next_of(part)
+            }
+            Kind::Encoder => {
+                let encoding = random.pick(&[Kind::Encode, Kind::EncodeBuf, Kind::EncodeBuf]);
+                self.next_of(encoding)
             }
             Kind::Readings => {
                 let reading = any_reading(random);
@@ -161,6 +178,10 @@ impl Generator {
             Kind::Held => Command::Held {
                 capture: low_run_capture(random),
             },
+            Kind::Encode => Command::Encode {
+                frame: any_unencoded(random),
+            },
+            Kind::EncodeBuf => any_encoding_into(random),
             Kind::Settle => any_settle(random),
             Kind::Gate => any_gate(random),
             Kind::KeptSearch => match self.kept_search.pop_front() {
@@ -381,6 +402,46 @@ fn any_length_about_frames(random: &mut Random) -> u8 {
     }
 }
 
+fn any_unencoded(random: &mut Random) -> Frame {
+    let bits = if random.one_in(3) {
+        any_length_about_frames(random)
+    } else {
+        random.pick(&[8, 16, 24])
+    };
+    let bytes = [(); FRAME_BYTES].map(|()| match random.below(6) {
+        0 => 0x00,
+        1 => 0xFF,
+        _ => random.byte(),
+    });
+    Frame { bits, bytes }
+}
+
+fn any_encoding_into(random: &mut Random) -> Command {
+    let frame = any_unencoded(random);
+    let size = any_buffer_size(random, most_buffer_bytes(frame));
+    let buffer = (0..size).map(|_| random.byte()).collect();
+    Command::EncodeBuf { frame, buffer }
+}
+
+/// Mostly about the seven bytes that are needed.
+fn any_buffer_size(random: &mut Random, most: usize) -> usize {
+    match random.below(40) {
+        0 => most - random.below(3),
+        1 => random.below(most + 1),
+        2 | 3 => random.below(300),
+        4..=19 => random.below(21),
+        _ => random.between(5, 9) as usize,
+    }
+}
+
+/// As many as the longest line has room for.
+pub fn most_buffer_bytes(frame: Frame) -> usize {
+    let buffer = Vec::new();
+    // No bytes are written as one dash.
+    let other_fields = Command::EncodeBuf { frame, buffer }.line().len() - 1;
+    (LONGEST_LINE - other_fields) / 2
+}
+
 /// A good line made bad in one of the ways that a line can be bad.
 pub fn spoiled(line: &[u8], random: &mut Random) -> Vec<u8> {
     loop {
@@ -444,13 +505,12 @@ pub fn spoiled_in_way(line: &[u8], way: usize, random: &mut Random) -> Vec<u8> {
     fields.join(&b' ')
 }
 
-/// A word that no command has, or, in place of a reading command's, one that has other operands.
+/// A word that no command has, or, in place of a reading command's or the encoder's, one that has other operands.
 fn unfitting_word(word: &[u8], random: &mut Random) -> Vec<u8> {
-    let number = NAMES.iter().position(|name| name.as_bytes() == word);
-    let words = if number.is_some_and(is_reading) {
-        NEAR_READINGS
-    } else {
-        NO_COMMANDS
+    let words = match NAMES.iter().position(|name| name.as_bytes() == word) {
+        Some(number) if is_reading(number) => NEAR_READINGS,
+        Some(number) if is_of_encoder(number) => NEAR_ENCODER,
+        _ => NO_COMMANDS,
     };
     random.pick(words).to_vec()
 }
@@ -495,6 +555,19 @@ const NEAR_READINGS: &[&[u8]] = &[
     b"low",
     b"hel",
     b"helds",
+];
+
+const NEAR_ENCODER: &[&[u8]] = &[
+    b"encod",
+    b"encode",
+    b"encodes",
+    b"encoder",
+    b"encodeb",
+    b"encodebu",
+    b"encodebuf",
+    b"encodebuff",
+    b"encode_buf",
+    b"code",
 ];
 
 /// More ticks than a line may have, or other than the bytes are for.

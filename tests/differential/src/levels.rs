@@ -58,6 +58,11 @@ impl Levels {
         (0..self.ticks).map(|tick| self.is_high(tick))
     }
 
+    pub fn high_ticks_at_end(&self) -> usize {
+        let from_last = (0..self.ticks).rev();
+        from_last.take_while(|tick| self.is_high(*tick)).count()
+    }
+
     /// What `answer` gives for each tick's level, in their order.
     pub fn answered(&self, mut answer: impl FnMut(bool) -> bool) -> Self {
         let mut given = Self::with_room_for(self.ticks);

@@ -6,15 +6,20 @@ mod captures;
 mod command;
 mod compare;
 mod coverage;
+mod encoder;
+mod frame_lines;
+mod frames;
 mod generate;
 mod levels;
 mod original;
 mod others;
+mod program;
 mod random;
 mod shrink;
 mod station;
 mod station_lines;
 mod stored;
+mod stored_encoder;
 mod stored_readings;
 mod stored_station;
 
@@ -31,12 +36,16 @@ const USAGE: &str = "usage:
   differential answer                                 answers the protocol on standard input
   differential generate --seed S --commands N [--only KIND]
   differential coverage --seed S --commands N [--only KIND]
-                                                      counts the moments that a script brings a station to
+                                                      counts where a script brings a station and the encoder
   differential compare --calls PROGRAM --seed S --commands N [--only KIND] [--batch B]
+  differential frames --calls PROGRAM [--seed S] [--batch B]
+                                                      whole frames, B of them to a run of the program
   differential store --to FOLDER                      writes FOLDER/stdin and FOLDER/stdout
-KIND is decoders, readings, station, station-long or a command's name.";
+KIND is decoders, readings, encoder, station, station-long or a command's name.";
 
 const USUAL_BATCH: usize = 50_000;
+const USUAL_FRAMES_BATCH: usize = 5_000;
+const USUAL_SEED: u64 = 62386;
 const DIFFERENT: u8 = 1;
 const MISUSED_OR_BROKEN: u8 = 2;
 
@@ -75,6 +84,11 @@ fn run(words: &[String]) -> Result<bool, String> {
             options.allow(&["--calls", "--seed", "--commands", "--only", "--batch"])?;
             let task = options.task()?;
             compare::compare(&task).map_err(|error| format!("{}: {error}", task.program))
+        }
+        "frames" => {
+            options.allow(&["--calls", "--seed", "--batch"])?;
+            let task = options.frames_task()?;
+            frames::run(&task).map_err(|error| format!("{}: {error}", task.program))
         }
         "store" => {
             options.allow(&["--to"])?;
@@ -121,7 +135,7 @@ fn write_lines(generator: &mut Generator, lines: usize) -> io::Result<()> {
 fn store(folder: &Path) -> io::Result<bool> {
     let script = stored::script();
     std::fs::write(folder.join("stdin"), &script)?;
-    std::fs::write(folder.join("stdout"), stored::answers(&script))?;
+    std::fs::write(folder.join("stdout"), answer::answers(&script))?;
     Ok(true)
 }
 
@@ -166,9 +180,12 @@ impl<'a> Options<'a> {
     }
 
     fn seed(&self) -> Result<u64, String> {
-        let text = self.text("--seed")?;
+        Self::number("--seed", self.text("--seed")?)
+    }
+
+    fn number(name: &str, text: &str) -> Result<u64, String> {
         text.parse()
-            .map_err(|_| format!("--seed {text}: not a number"))
+            .map_err(|_| format!("{name} {text}: not a number"))
     }
 
     fn positive(name: &str, text: &str) -> Result<usize, String> {
@@ -195,10 +212,25 @@ impl<'a> Options<'a> {
             seed: self.seed()?,
             commands: self.commands()?,
             kind: self.kind()?,
-            batch: match self.find("--batch") {
-                None => USUAL_BATCH,
-                Some(text) => Self::positive("--batch", text)?,
-            },
+            batch: self.batch(USUAL_BATCH)?,
         })
+    }
+
+    fn frames_task(&self) -> Result<frames::Task, String> {
+        Ok(frames::Task {
+            program: self.text("--calls")?.to_string(),
+            seed: match self.find("--seed") {
+                None => USUAL_SEED,
+                Some(text) => Self::number("--seed", text)?,
+            },
+            batch: self.batch(USUAL_FRAMES_BATCH)?,
+        })
+    }
+
+    fn batch(&self, usual: usize) -> Result<usize, String> {
+        match self.find("--batch") {
+            None => Ok(usual),
+            Some(text) => Self::positive("--batch", text),
+        }
     }
 }

@@ -3,11 +3,10 @@
 use std::collections::VecDeque;
 
 use crate::captures::{any_wave, bits_of, exact_wave};
+use crate::encoder::HALF_BIT_TICKS;
 use crate::levels::{HIGH, LOW};
 use crate::random::Random;
 use crate::station::HalfBits;
-
-const HALF_BIT_TICKS: usize = 4;
 
 /// What comes when the planned runs are used up.
 #[derive(Clone, Copy, PartialEq, Eq)]

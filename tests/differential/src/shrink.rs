@@ -220,6 +220,7 @@ impl Shrinker<'_> {
     fn simplify_command(&mut self, at: usize) {
         self.no_decode(at);
         self.fewer_samples(at);
+        self.empty_buffer(at);
         self.simpler_bytes(at);
         for number in 0..MOST_NUMBERS {
             self.smaller_number(at, number);
@@ -231,13 +232,22 @@ impl Shrinker<'_> {
                 }
             });
         }
-        self.fewer_lengths(at);
+        self.fewer_bytes(at);
     }
 
     fn no_decode(&mut self, at: usize) {
         self.take_change(at, |command| {
             if let Command::SniffDec { found } = command {
                 *found = None;
+            }
+        });
+    }
+
+    /// A buffer can be longer than the places that are tried one by one.
+    fn empty_buffer(&mut self, at: usize) {
+        self.take_change(at, |command| {
+            if let Command::EncodeBuf { buffer, .. } = command {
+                buffer.fill(0);
             }
         });
     }
@@ -270,7 +280,7 @@ impl Shrinker<'_> {
         }
     }
 
-    /// Simpler samples, half-bits or data.
+    /// Simpler samples, half-bits, data or bytes of a buffer.
     fn simpler_bytes(&mut self, at: usize) {
         for place in 0..SAMPLES {
             for simple in SIMPLE_SAMPLES {
@@ -312,17 +322,19 @@ impl Shrinker<'_> {
         }
     }
 
-    fn fewer_lengths(&mut self, line: usize) {
-        let listed = |script: &Script| match Command::read(&script[line]) {
-            Some(Command::Lengths { bytes, .. }) => bytes.len(),
-            _ => 0,
+    /// Fewer lengths, or a shorter buffer.
+    fn fewer_bytes(&mut self, line: usize) {
+        let listed = |script: &Script| {
+            let mut command = Command::read(&script[line]);
+            let bytes = command.as_mut().and_then(byte_string_of);
+            bytes.map_or(0, |bytes| bytes.len())
         };
         let mut size = listed(&self.script);
         while size > 0 {
             let mut at = 0;
             while at < listed(&self.script) {
                 let taken = self.take_change(line, |command| {
-                    if let Command::Lengths { bytes, .. } = command {
+                    if let Some(bytes) = byte_string_of(command) {
                         bytes.drain(at..bytes.len().min(at + size));
                     }
                 });
@@ -350,9 +362,18 @@ fn capture_of(command: &mut Command) -> Option<&mut Capture> {
     }
 }
 
+fn byte_string_of(command: &mut Command) -> Option<&mut Vec<u8>> {
+    match command {
+        Command::Lengths { bytes, .. } => Some(bytes),
+        Command::EncodeBuf { buffer, .. } => Some(buffer),
+        _ => None,
+    }
+}
+
 fn bytes_of(command: &mut Command) -> &mut [u8] {
     match command {
         Command::Start { half_bits, .. } => &mut half_bits.data,
+        Command::EncodeBuf { buffer, .. } => buffer,
         Command::SniffDec {
             found: Some(decode),
         } => &mut decode.data,
@@ -444,6 +465,14 @@ fn change_number(command: &mut Command, number: usize, make: fn(i32) -> i32) {
             1 => on_i8(&mut decode.phase_ticks),
             2 => on_u16(&mut decode.score),
             _ => {}
+        },
+        Command::Encode { frame } | Command::EncodeBuf { frame, .. } => match number {
+            0 => on_u8(&mut frame.bits),
+            _ => {
+                if let Some(byte) = frame.bytes.get_mut(number - 1) {
+                    on_u8(byte);
+                }
+            }
         },
         Command::Start { half_bits, .. } if number == 0 => on_u8(&mut half_bits.len),
         Command::Settle { ticks, lead } => match number {

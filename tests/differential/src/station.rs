@@ -4,7 +4,6 @@ use std::cell::Cell;
 use std::rc::Rc;
 use std::sync::atomic::Ordering;
 
-use crate::captures::bits_of;
 use crate::command::Command;
 use crate::fsm::{
     BusState, CollisionPolicy, DaliBitbangPhy, RxCompletedEvent, RxState, TxPollResult,
@@ -14,7 +13,6 @@ use crate::platform::hal::BitbangHal;
 
 pub const HALF_BIT_BYTES: usize = HalfBitBuffer::DATA_LEN;
 pub const MOST_HALF_BITS: u8 = HalfBitBuffer::MAX_DATA_HALF_BITS;
-const RELEASED_AT_END: u8 = 4;
 
 /// The two levels that pass between a station and its line. A tick on which the Rust sets no level leaves the driven one as it is.
 struct Line {
@@ -44,21 +42,14 @@ pub struct HalfBits {
 }
 
 impl HalfBits {
-    /// A frame as document 01 encodes it: start bit, data, four released half-bits, zero fill.
-    pub fn of_frame(bytes: &[u8]) -> Self {
-        let mut half_bits = Self {
+    pub fn none() -> Self {
+        Self {
             len: 0,
             data: [0; HALF_BIT_BYTES],
-        };
-        for bit in [true].into_iter().chain(bits_of(bytes)) {
-            half_bits.push(bit);
-            half_bits.push(!bit);
         }
-        half_bits.len += RELEASED_AT_END;
-        half_bits
     }
 
-    fn push(&mut self, pulls: bool) {
+    pub fn push(&mut self, pulls: bool) {
         let place = 0x80 >> (self.len % 8);
         if pulls {
             self.data[usize::from(self.len / 8)] |= place;

@@ -4,6 +4,7 @@
 use std::collections::VecDeque;
 
 use crate::command::{Command, MOST_TICKS};
+use crate::encoder::half_bits_of;
 use crate::fsm::{BusState, CollisionPolicy, RxState};
 use crate::levels::{Levels, HIGH, LOW};
 use crate::others::{any_frame, Mood, Others};
@@ -290,7 +291,7 @@ impl StationLines {
     fn send_against(&mut self, half_bits: &HalfBits, random: &mut Random) {
         let mut other = match random.below(3) {
             0 => *half_bits,
-            _ => HalfBits::of_frame(&any_frame(random)),
+            _ => half_bits_of(&any_frame(random)),
         };
         if random.one_in(2) {
             let half_bit = random.below(usize::from(half_bits.len));
@@ -417,7 +418,7 @@ impl StationLines {
 
     /// What a controller does that wants its frame out: after a yield or a clash it waits, and starts anew.
     fn send_again_and_again(&mut self, random: &mut Random) {
-        let half_bits = HalfBits::of_frame(&any_frame(random));
+        let half_bits = half_bits_of(&any_frame(random));
         self.reach(Moment::Idle, random);
         for _ in 0..random.between(1, 4) {
             if self.start(any_start(random), half_bits) {
@@ -490,7 +491,7 @@ fn any_start(random: &mut Random) -> Start {
 }
 
 fn any_half_bits(random: &mut Random) -> HalfBits {
-    let mut half_bits = HalfBits::of_frame(&any_frame(random));
+    let mut half_bits = half_bits_of(&any_frame(random));
     match random.below(12) {
         0 => half_bits.len = random.byte(),
         1 => half_bits.len = random.pick(&[0, 1, 53, 54, 55, 56, 57, 255]),

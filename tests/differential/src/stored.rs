@@ -2,17 +2,17 @@
 
 use std::ops::Range;
 
-use crate::answer::Session;
 use crate::captures::{any_capture, bits_of, fast_capture, frame_capture, samples_capture};
 use crate::command::{Capture, Command, Rank, LONGEST_LINE};
 use crate::generate::{spoiled_in_way, ticks_line, Generator, Kind, SPOILED_WAYS};
 use crate::random::Random;
-use crate::{stored_readings, stored_station};
+use crate::{stored_encoder, stored_readings, stored_station};
 
 const SEED: u64 = 62386;
 /// The seeded part's lines.
 const OF_DECODERS: usize = 900;
 const OF_READINGS: usize = 190;
+const OF_ENCODER: usize = 150;
 const OF_STATION: usize = 800;
 const SNIFFED: u32 = 1 << 8 | 1 << 16 | 1 << 24;
 const ONLY_8: u32 = 1 << 8;
@@ -23,16 +23,20 @@ pub fn script() -> Vec<u8> {
     let mut lines = Vec::new();
     bench_rows(&mut lines);
     stored_readings::bench_rows(&mut lines);
+    stored_encoder::bench_rows(&mut lines);
     stored_station::bench_rows(&mut lines);
     findings(&mut lines);
     stored_readings::findings(&mut lines);
     stored_station::findings(&mut lines);
     edges(&mut lines);
     stored_readings::edges(&mut lines);
+    stored_encoder::edges(&mut lines);
     stored_station::edges(&mut lines);
     bad_lines(&mut lines);
+    stored_encoder::bad_lines(&mut lines);
     seeded(&mut lines, Kind::Decoders, OF_DECODERS);
     seeded(&mut lines, Kind::Readings, OF_READINGS);
+    seeded(&mut lines, Kind::Encoder, OF_ENCODER);
     seeded(&mut lines, Kind::Station, OF_STATION);
     lines.retain(|line| line.is_ascii());
     lines.push(phase(32, 0, &wave(&[0x01])));
@@ -46,15 +50,6 @@ fn seeded(lines: &mut Lines, kind: Kind, number: usize) {
         generator.push_line(&mut line);
         lines.push(line);
     }
-}
-
-pub fn answers(script: &[u8]) -> Vec<u8> {
-    let mut session = Session::new();
-    let mut answers = Vec::new();
-    for line in script.split(|byte| *byte == b'\n') {
-        session.answer(line, &mut answers);
-    }
-    answers
 }
 
 type Lines = Vec<Vec<u8>>;
@@ -380,6 +375,7 @@ fn bad_lines(lines: &mut Lines) {
     ];
     good.extend(stored_station::good_lines());
     good.extend(stored_readings::good_lines());
+    good.extend(stored_encoder::good_lines());
     lines.push(bsnew(ONLY_8));
     for line in &good {
         lines.push(line.clone());

@@ -2,6 +2,7 @@
 
 use crate::captures::{bits_of, exact_wave};
 use crate::command::{Command, MOST_TICKS};
+use crate::encoder::half_bits_of;
 use crate::fsm::CollisionPolicy;
 use crate::levels::{Levels, HIGH, LOW};
 use crate::station::{HalfBits, Start, Station, HALF_BIT_BYTES};
@@ -135,7 +136,7 @@ pub fn bench_rows(lines: &mut Lines) {
 
 /// 16 bits of 0000 against 8000, both started before the first tick, each station on its own.
 fn clash_of_two(lines: &mut Lines) {
-    let frames = [[0x00, 0x00], [0x80, 0x00]].map(|bytes| HalfBits::of_frame(&bytes));
+    let frames = [[0x00, 0x00], [0x80, 0x00]].map(|bytes| half_bits_of(&bytes));
     let mut stations = frames.map(|frame| {
         let mut station = Station::new();
         station.start(Start::Tx, &frame);
@@ -295,7 +296,7 @@ fn policy_in_mid_send(lines: &mut Lines) {
         for after in POLICIES {
             let mut example = Example::new(lines);
             example.policy(before);
-            example.start(Start::Tx, HalfBits::of_frame(&[0x00]));
+            example.start(Start::Tx, half_bits_of(&[0x00]));
             example.hears(&[(HIGH, 20)]);
             example.policy(after);
             example.hears(&[(HIGH, 1), (LOW, 2), (HIGH, 1)]);
@@ -312,7 +313,7 @@ fn whole_frames(lines: &mut Lines) {
             (Start::Tx, CollisionPolicy::On),
             (Start::Answer, CollisionPolicy::Auto),
         ] {
-            let frame = HalfBits::of_frame(bytes);
+            let frame = half_bits_of(bytes);
             let mut example = Example::new(lines);
             example.policy(policy);
             example.start(start, frame);
