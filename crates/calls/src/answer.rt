@@ -142,3 +142,23 @@ pub(crate) fn put_hex(out: &mut Answers, at: usize, bytes: &[u8]) -> usize
     }
     end
 }
+
+// A byte string, `-` for one of no bytes.
+pub(crate) fn put_bytes(out: &mut Answers, at: usize, bytes: &[u8]) -> usize
+    requires { ⌜ Room at (1 + 2 * length (now bytes)) ⌝ }
+    ensures { λ r. ⌜ r ≤ at + (1 + 2 * length (now (bytes .entry))) ⌝ }
+{
+    if bytes.len() == 0 {
+        return put_byte(out, at, b'-');
+    }
+    put_hex(out, at, bytes)
+}
+
+// `refused N`
+pub(crate) fn put_refused(out: &mut Answers, at: usize, number: u16) -> usize
+    requires { ⌜ Room at 13 ⌝ }
+    ensures { λ r. ⌜ r ≤ at + 13 ⌝ }
+{
+    let at = put_text(out, at, b"refused");
+    put_field(out, at, number)
+}

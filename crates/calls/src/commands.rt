@@ -4,6 +4,7 @@ ghost use Rattle.calls.specs.Bounds.{Room};
 use crate::answer;
 use crate::answer::Answers;
 use crate::decoders;
+use crate::encoder;
 use crate::kept_search;
 use crate::readings;
 use crate::station;
@@ -73,6 +74,10 @@ fn command(line: &[u8], kept: Kept, out: &mut Answers, at: usize) -> Answered
         return Answered { kept, at: end };
     }
     let end = readings::answer(line, out, at);
+    if at < end {
+        return Answered { kept, at: end };
+    }
+    let end = encoder::answer(line, out, at);
     if at < end {
         return Answered { kept, at: end };
     }

@@ -36,12 +36,10 @@ fn weight(line: &[u8], out: &mut Answers, at: usize) -> usize
     requires { ⌜ Room at 5 ⌝ }
     ensures { λ r. ⌜ r ≤ at + 5 ⌝ }
 {
-    let mut sample = [0u8; 1];
-    if values::read_hex(fields::rest(line, 1), &mut sample) {
-        let weight = weight::sample_weight(sample[0]);
-        return answer::put_decimal(out, at, weight as u16);
-    }
-    at
+    let Byte::Is(sample) = values::read_hex_byte(fields::rest(line, 1)) else {
+        return at;
+    };
+    answer::put_decimal(out, at, weight::sample_weight(sample) as u16)
 }
 
 // `phase MAX PHASE COUNT HEX128`

@@ -3,6 +3,7 @@
 mod answer;
 mod commands;
 mod decoders;
+mod encoder;
 mod fields;
 mod kept_search;
 mod lines;

@@ -1,4 +1,4 @@
-// What the commands work on, read from fields of a line: an event, a window, a set of lengths, a decode, a policy.
+// What the commands work on, read from fields of a line: an event, a window, a set of lengths, a decode, a policy, a frame.
 ghost use Prim.Native.Nat.{_<_};
 use crate::fields;
 use crate::values;
@@ -37,6 +37,19 @@ pub(crate) enum Decode {
 
 pub(crate) enum Policy {
     Is(CollisionPolicy),
+    Bad,
+}
+
+// What the encoder takes: how many bits a frame is to have, and three bytes for them.
+pub(crate) struct FrameBits {
+    pub(crate) count: u8,
+    pub(crate) first: u8,
+    pub(crate) second: u8,
+    pub(crate) third: u8,
+}
+
+pub(crate) enum Frame {
+    Is(FrameBits),
     Bad,
 }
 
@@ -135,4 +148,26 @@ pub(crate) fn read_policy(field: &[u8]) -> Policy {
         2 => Policy::Is(CollisionPolicy::On),
         _ => Policy::Bad,
     }
+}
+
+// `BITS HH HH HH`, from field 1 on. The third byte's field is handed in, since it ends the line of one command and not of the other.
+pub(crate) fn read_frame(line: &[u8], last: &[u8]) -> Frame {
+    let Byte::Is(count) = values::read_byte(fields::field(line, 1)) else {
+        return Frame::Bad;
+    };
+    let Byte::Is(first) = values::read_hex_byte(fields::field(line, 2)) else {
+        return Frame::Bad;
+    };
+    let Byte::Is(second) = values::read_hex_byte(fields::field(line, 3)) else {
+        return Frame::Bad;
+    };
+    let Byte::Is(third) = values::read_hex_byte(last) else {
+        return Frame::Bad;
+    };
+    Frame::Is(FrameBits {
+        count,
+        first,
+        second,
+        third,
+    })
 }

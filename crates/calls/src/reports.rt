@@ -13,13 +13,13 @@ use fsm::TxPollResult;
 
 // `ok`, `refused 7` or `refused 8`
 pub(crate) fn put_start_answer(out: &mut Answers, at: usize, start_answer: StartAnswer) -> usize
-    requires { ⌜ Room at 9 ⌝ }
-    ensures { λ r. ⌜ r ≤ at + 9 ⌝ }
+    requires { ⌜ Room at 13 ⌝ }
+    ensures { λ r. ⌜ r ≤ at + 13 ⌝ }
 {
     match start_answer {
         StartAnswer::Started => answer::put_text(out, at, b"ok"),
-        StartAnswer::Busy => answer::put_text(out, at, b"refused 7"),
-        StartAnswer::BadLength => answer::put_text(out, at, b"refused 8"),
+        StartAnswer::Busy => answer::put_refused(out, at, 7),
+        StartAnswer::BadLength => answer::put_refused(out, at, 8),
     }
 }
 

@@ -22,8 +22,8 @@ pub(crate) struct Called {
 }
 
 pub(crate) fn answer(line: &[u8], station: DaliBitbangPhy, out: &mut Answers, at: usize) -> Called
-    requires { ⌜ Room at 1026 ⌝ }
-    ensures { λ r. ⌜ r .at ≤ at + 1026 ⌝ }
+    requires { ⌜ Room at 1027 ⌝ }
+    ensures { λ r. ⌜ r .at ≤ at + 1027 ⌝ }
 {
     let word = fields::field(line, 0);
     match fields::place(word, b"ticks tick start_tx start_answer policy settle gate") {
@@ -92,8 +92,8 @@ fn start(
     out: &mut Answers,
     at: usize,
 ) -> Called
-    requires { ⌜ Room at 9 ⌝ }
-    ensures { λ r. ⌜ r .at ≤ at + 9 ⌝ }
+    requires { ⌜ Room at 13 ⌝ }
+    ensures { λ r. ⌜ r .at ≤ at + 13 ⌝ }
 {
     let Byte::Is(length) = values::read_byte(fields::field(line, 1)) else {
         return Called { station, at };

@@ -43,8 +43,8 @@ pub(crate) fn tick(line: &[u8], station: DaliBitbangPhy, out: &mut Answers, at: 
 
 // `ticks HEX N`
 pub(crate) fn ticks(line: &[u8], station: DaliBitbangPhy, out: &mut Answers, at: usize) -> Called
-    requires { ⌜ Room at 1026 ⌝ }
-    ensures { λ r. ⌜ r .at ≤ at + 1026 ⌝ }
+    requires { ⌜ Room at 1027 ⌝ }
+    ensures { λ r. ⌜ r .at ≤ at + 1027 ⌝ }
 {
     let Number::Is(number) = values::read_number(fields::rest(line, 2), TICKS_MAX) else {
         return Called { station, at };
@@ -62,22 +62,16 @@ pub(crate) fn ticks(line: &[u8], station: DaliBitbangPhy, out: &mut Answers, at:
 
 // `d HEX`, with so many bytes of the wave
 fn put_ran(out: &mut Answers, at: usize, ran: Ran, bytes: usize) -> Called
-    requires { ⌜ Room at 1026 ⌝ }
+    requires { ⌜ Room at 1027 ⌝ }
     requires { ⌜ bytes ≤ 512 ⌝ }
-    ensures { λ r. ⌜ r .at ≤ at + 1026 ⌝ }
+    ensures { λ r. ⌜ r .at ≤ at + 1027 ⌝ }
 {
     let station = ran.station;
     let driven = ran.driven;
     let at = answer::put_text(out, at, b"d ");
-    if bytes == 0 {
-        return Called {
-            station,
-            at: answer::put_byte(out, at, b'-'),
-        };
-    }
     Called {
         station,
-        at: answer::put_hex(out, at, &driven[..bytes]),
+        at: answer::put_bytes(out, at, &driven[..bytes]),
     }
 }
 

@@ -144,6 +144,15 @@ pub(crate) fn read_hex(field: &[u8], bytes: &mut [u8]) -> bool {
     true
 }
 
+// A byte of two hex digits.
+pub(crate) fn read_hex_byte(field: &[u8]) -> Byte {
+    let mut byte = [0u8; 1];
+    if read_hex(field, &mut byte) {
+        return Byte::Is(byte[0]);
+    }
+    Byte::Bad
+}
+
 // Reads a byte string of any length, `-` for none, and answers how many bytes it has.
 pub(crate) fn read_bytes(field: &[u8], bytes: &mut [u8]) -> Count
     ensures { λ r. ⌜ Counted (length (now (bytes .entry))) r ⌝ }

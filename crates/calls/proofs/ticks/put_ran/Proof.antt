@@ -13,34 +13,28 @@ slice-aggregate-put-text c = search needs
 put-text-requires : tie.Need-put-text-requires
 put-text-requires c κs = search needs
 
-put-byte-requires : tie.Need-put-byte-requires
-put-byte-requires c κs = search needs
-
-returns : tie.Need-returns
-returns c = search needs
-
 array-share-prefix-driven : tie.Need-array-share-prefix-driven
 array-share-prefix-driven c =
-    let a = c .before .before .before .before .before .before .before .args in
+    let a = c .before .before .before .before .before .before .args in
     let n : length (a .ran .driven) ≡ 512 = search needs in
     omega arith
 
-slice-aggregate-put-hex : tie.Need-slice-aggregate-put-hex
-slice-aggregate-put-hex c =
-    let a = c .before .before .before .before .before .before .before .before .args in
+slice-aggregate-put-bytes : tie.Need-slice-aggregate-put-bytes
+slice-aggregate-put-bytes c =
+    let a = c .before .before .before .before .before .before .before .args in
     let n : length (a .ran .driven) ≡ 512 = search needs in
     sym (length-take-le (a .bytes) (a .ran .driven) (omega arith))
 
-put-hex-requires : tie.Need-put-hex-requires
-put-hex-requires c κs =
-    let a = c .before .before .before .before .before .before .before .before .args in
+put-bytes-requires : tie.Need-put-bytes-requires
+put-bytes-requires c κs =
+    let a = c .before .before .before .before .before .before .before .args in
     let n : length (a .ran .driven) ≡ 512 = search needs in
     let e = length-take-le (a .bytes) (a .ran .driven) (omega arith) in
     omega arith
 
-returns-2 : tie.Need-returns-2
-returns-2 c =
-    let a = c .before .before .before .before .before .before .before .before .before .args in
+returns : tie.Need-returns
+returns c =
+    let a = c .before .before .before .before .before .before .before .before .args in
     let n : length (a .ran .driven) ≡ 512 = search needs in
     let e = length-take-le (a .bytes) (a .ran .driven) (omega arith) in
     omega arith
@@ -51,9 +45,7 @@ put-ran-spec =
     (tie.spec
     slice-aggregate-put-text
     put-text-requires
-    put-byte-requires
-    returns
     array-share-prefix-driven
-    slice-aggregate-put-hex
-    put-hex-requires
-    returns-2)
+    slice-aggregate-put-bytes
+    put-bytes-requires
+    returns)
