@@ -54,8 +54,12 @@ module _ (level : ℕ → Bool) where
     unfolding sampled
     sampled-next few =
         cases (Sampled (suc m)) (eqb (r .«rx_bit_cnt») 7)
-        (λ e. let c : r .«rx_bit_cnt» ≡ 7 = eqb-true _ _ e in record { pos = omega (arith, h .pos, h .count, c); count = omega (arith, h .count, c); byte = next-byte; idle = next-idle few })
-        (λ e. let c : r .«rx_bit_cnt» ≡ 7 → ⊥ = eqb-false _ _ e in record { pos = omega (arith, h .pos, h .count, c); count = omega (arith, h .count, c); byte = next-byte; idle = next-idle few })
+        (λ e.
+        let c : r .«rx_bit_cnt» ≡ 7 = eqb-true _ _ e in
+        record { pos = omega (arith, h .pos, h .count, c); count = omega (arith, h .count, c); byte = next-byte; idle = next-idle few })
+        (λ e.
+        let c : r .«rx_bit_cnt» ≡ 7 → ⊥ = eqb-false _ _ e in
+        record { pos = omega (arith, h .pos, h .count, c); count = omega (arith, h .count, c); byte = next-byte; idle = next-idle few })
 
   -- ---- its bytes, of which n are written
   pub record Stored (n : ℕ) (bytes : List ℕ) : Type 0 where

@@ -101,8 +101,10 @@ module _ (frame : List Bool) (fits : FitsCapture frame) where
     from-quiet quiet n h =
         let level = levelAt frame in
         let (fell-idle, fell, same) = first-low s idle quiet in
+        let first = starts-low 0 (omega arith) in
+        let second = starts-low 1 (omega arith) in
         let two : Hearing level 2 (tickOf (tickOf s (level 0)) (level 1))
-        = rw (starts-low 0 (omega arith), starts-low 1 (omega arith)) (second-low level (tickOf s false) fell-idle fell (ap length same ∙ whole) (starts-low 0 (omega arith)) (starts-low 1 (omega arith))) in
+        = rw (first, second) (second-low level (tickOf s false) fell-idle fell (ap length same ∙ whole) first second) in
         let c = captures level (lastLow frame + 17) (omega (arith, enough)) (omega arith) not-yet (sixteen frame) ends-high (tickOf (tickOf s (level 0)) (level 1)) two n h in
         record {
           front = 0;
@@ -117,7 +119,10 @@ module _ (frame : List Bool) (fits : FitsCapture frame) where
     from-debouncing fell n h =
         let level = levelAt frame in
         let two : Hearing (late 1 level) 2 (tickOf s (level 0)) = rw (starts-low 0 (omega arith)) (second-low (late 1 level) s idle fell whole refl (starts-low 0 (omega arith))) in
-        let c = captures (late 1 level) (suc (lastLow frame + 17)) (omega (arith, enough)) (omega arith) not-yet-late (highs-late level (lastLow frame + 17) ∙ sixteen frame) ends-high-late (tickOf s (level 0)) two n (omega arith) in
+        let full = highs-late level (lastLow frame + 17) ∙ sixteen frame in
+        let c
+        = captures (late 1 level) (suc (lastLow frame + 17)) (omega (arith, enough)) (omega arith) not-yet-late full ends-high-late (tickOf s (level 0)) two n
+        (omega arith) in
         record {
           front = 1;
           few = omega arith;

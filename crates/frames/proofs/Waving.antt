@@ -53,9 +53,15 @@ module _ (frame : List Bool) where
   after b e i = go b e (decLt i 4)
     where
       go : (b : Bool) → bitOf frame (length frame) ≡ b → Dec (i < 4) → levelAt frame (suc (8 * length frame + lowIn b) + i) ≡ high
-      go true e (yes own) = ap (levelAt frame) (let p : suc (8 * length frame + 3) + i ≡ 8 * length frame + (4 + i) = omega arith in p) ∙ second-level frame (length frame) i (omega arith) own ∙ e
-      go true e (no past) = ap (levelAt frame) (let p : suc (8 * length frame + 3) + i ≡ 8 * suc (length frame) + (i - 4) = omega (arith, past) in p) ∙ later-level frame (suc (length frame)) (i - 4) (omega arith)
-      go false e half = ap (levelAt frame) (let p : suc (8 * length frame + 7) + i ≡ 8 * suc (length frame) + i = omega arith in p) ∙ later-level frame (suc (length frame)) i (omega arith)
+      go true e (yes own) =
+          let p : suc (8 * length frame + 3) + i ≡ 8 * length frame + (4 + i) = omega arith in
+          ap (levelAt frame) p ∙ second-level frame (length frame) i (omega arith) own ∙ e
+      go true e (no past) =
+          let p : suc (8 * length frame + 3) + i ≡ 8 * suc (length frame) + (i - 4) = omega (arith, past) in
+          ap (levelAt frame) p ∙ later-level frame (suc (length frame)) (i - 4) (omega arith)
+      go false e half =
+          let p : suc (8 * length frame + 7) + i ≡ 8 * suc (length frame) + i = omega arith in
+          ap (levelAt frame) p ∙ later-level frame (suc (length frame)) i (omega arith)
 
   pub after-last : (i : ℕ) → levelAt frame (suc lastLow + i) ≡ high
   after-last i = after (bitOf frame (length frame)) refl i

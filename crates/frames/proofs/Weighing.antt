@@ -92,7 +92,12 @@ module _ (w : SampleWindow) (level : ℕ → Bool) (shown : (p : ℕ) → p < 8 
         let centre = peek-at 1 (omega arith) (p + 1) refl in
         let late = peek-at 2 (omega arith) (p + 1 + 1) (omega arith) in
         let samples : p + 1 + 1 < sampleBits w = omega arith in
-        simp (on-true (lt-ltb (p + 1 + 1) (sampleBits w) samples), on-true (le-leb len most few), early, centre, late, on-false (ap (λ (x : Read). x .ends) r), on-false (ap (λ (x : Read). x .holds) r), ap (λ (x : Read). x .weight) r, ap (λ (x : Read). x .stride) r, rest)
+        let goes : readOf levels .ends ≡ false = ap (λ (x : Read). x .ends) r in
+        let free : readOf levels .holds ≡ false = ap (λ (x : Read). x .holds) r in
+        let weighs : readOf levels .weight ≡ weight = ap (λ (x : Read). x .weight) r in
+        let strides : readOf levels .stride ≡ stride = ap (λ (x : Read). x .stride) r in
+        let here = lt-ltb (p + 1 + 1) (sampleBits w) samples in
+        simp (on-true here, on-true (le-leb len most few), early, centre, late, on-false goes, on-false free, weighs, strides, rest)
 
 -- ---- a wave behind d low ticks
 pub late-at : (level : ℕ → Bool) (d q : ℕ) → late d level (d + q) ≡ level q
