@@ -3,7 +3,7 @@ use Prim.Native.Nat.{ℕ, suc, _+_, _-_, _*_, _/_, _%_, _<_}
 use native.Mathlib.Omega.{arith}
 use mathlib.Core.Bool.{Bool, true, false, not}
 use mathlib.Core.List.{List}
-use mathlib.Core.Path.{_≡_, refl, _∙_, ap}
+use mathlib.Core.Path.{_≡_, refl, sym, _∙_, ap}
 use lib.Dec.{eqb}
 use lib.ListN.{length, getD}
 use borrow.Author.Tests.{le-leb, lt-leb, eq-eqb, ne-eqb}
@@ -37,7 +37,7 @@ is-zero true = refl
 is-zero false = refl
 
 -- what the sender reads there is the level of the wave
-read-back : (bits : List Bool) (j : ℕ) → j < 56 → releasesAt (getD (storeOf bits) (j / 8) 0) j ≡ levelAt bits (4 * j)
+pub read-back : (bits : List Bool) (j : ℕ) → j < 56 → releasesAt (getD (storeOf bits) (j / 8) 0) j ≡ levelAt bits (4 * j)
 unfolding releasesAt storeOf pulls
 read-back bits j h =
     let byte : ℕ → ℕ = λ i. packed 2 8 (λ k. bit (pulls bits (8 * i + k))) in
@@ -54,27 +54,38 @@ read-back bits j h =
 abbrev pub next : DaliBitbangPhy → DaliBitbangPhy
 next s = tickOf s (drives s)
 
--- It sends these bits: so many ticks are armed, so many half-bits are begun, so many ticks of the last of them are left, and this is the
--- level that it drives.
-pub record Sender (bits : List Bool) (ticks half-bits left : ℕ) (level : Bool) (s : DaliBitbangPhy) : Type 0 where
+-- no clash and no yield is to be told
+abbrev pub Clear : DaliBitbangPhy → Type 0
+Clear s = (s .core .told .«tx_collision» ≡ 0) × (s .core .told .«tx_yielded» ≡ false)
+
+-- It sends these bits under this policy: so many ticks are armed, so many half-bits are begun, so many ticks of the last of them are left,
+-- and this is the level that it drives.
+pub record Sender (bits : List Bool) (policy : CollisionPolicy) (ticks half-bits left : ℕ) (level : Bool) (s : DaliBitbangPhy) : Type 0 where
   pub state : IsSending s
   pub store : s .«tx_hb» .«tx_hb_data» ≡ storeOf bits
   pub loads : s .«tx_hb» .«tx_hb_len» ≡ halfBitsOf (length bits)
+  pub watch : s .core .«collision_policy» ≡ policy
   pub arms : s .core .tx .«tx_armed» ≡ ticks
   pub begun : s .core .tx .«tx_hb_cnt» ≡ half-bits
   pub spaces : s .core .tx .«tx_sp_cnt» ≡ left
   pub line : drives s ≡ level
-  -- its own low tick is on no released half-bit
-  pub pulled : drives s ≡ low → s .core .tx .«tx_high» ≡ 0
+  -- a half-bit is watched where it is released
+  pub pulled : level ≡ low → s .core .tx .«tx_high» ≡ 0
+  pub released : 0 < half-bits → level ≡ high → s .core .tx .«tx_high» ≡ 1
+  pub clear : Clear s
 
-abbrev ruleOf : DaliBitbangPhy → TxStep
-ruleOf s = txStep (s .core .tx) (s .core .«collision_policy») (s .«tx_hb») (drives s)
+abbrev pub ruleOf : DaliBitbangPhy → Bool → TxStep
+ruleOf s sampled = txStep (s .core .tx) (s .core .«collision_policy») (s .«tx_hb») sampled
 
-by-rule : (s : DaliBitbangPhy) {rule : TxStep} → IsSending s → ruleOf s ≡ rule → next s ≡ withCore s (stepped rule (heardOf (s .core) (drives s)))
+abbrev pub clashes : DaliBitbangPhy → Bool → Bool
+clashes s sampled = clashOf (s .core .tx) (s .core .«collision_policy») (s .«tx_hb» .«tx_hb_len») sampled
+
+pub by-rule : (s : DaliBitbangPhy) (sampled : Bool) {rule : TxStep} → IsSending s → ruleOf s sampled ≡ rule
+    → tickOf s sampled ≡ withCore s (stepped rule (heardOf (s .core) sampled))
 unfolding tickOf actOf isRx pick machine.actOf txTick heardOf
-by-rule s e f = rw (e, f)
+by-rule s sampled e f = rw (e, f)
 
--- whatever the policy
+-- a sender's own level is no clash, whatever the policy
 no-clash : (tx : Tx) (policy : CollisionPolicy) (len : ℕ) (level : Bool) → (level ≡ low → tx .«tx_high» ≡ 0) → clashOf tx policy len level ≡ false
 unfolding clashOf pick
 no-clash tx policy len true pulled = refl
@@ -83,49 +94,90 @@ no-clash tx policy len false pulled = on-true (eq-eqb (tx .«tx_high») 0 (pulle
 some-left : (n : ℕ) → eqb (suc n) 0 ≡ false
 some-left n = ne-eqb (suc n) 0 (λ e. omega (arith, e))
 
-module _ (bits : List Bool) where
-  pub arm : {ticks : ℕ} {s : DaliBitbangPhy} → Sender bits (suc ticks) 0 0 high s → Sender bits ticks 0 0 high (next s)
+module _ {bits : List Bool} {policy : CollisionPolicy} where
+  pub own-level : {ticks j left : ℕ} {level : Bool} {s : DaliBitbangPhy} → Sender bits policy ticks j left level s → clashes s (drives s) ≡ false
+  own-level {s = s} a = no-clash (s .core .tx) _ _ (drives s) (λ e. a .pulled (sym (a .line) ∙ e))
+
+  pub arm : {ticks : ℕ} {s : DaliBitbangPhy} → Sender bits policy (suc ticks) 0 0 high s → Sender bits policy ticks 0 0 high (next s)
   unfolding stepped armed heardOf txStep
   arm {ticks} {s} a =
-      let rule : ruleOf s ≡ Arm = on-false (ap (λ n. eqb n 0) (a .arms) ∙ some-left ticks) _ _ ∙ on-true (a .line) _ _ in
-      rw (by-rule s (a .state) rule)
-      (record { state = a .state; store = a .store; loads = a .loads; arms = omega arith; begun = a .begun; spaces = a .spaces; line = a .line; pulled = a .pulled })
+      let rule : ruleOf s (drives s) ≡ Arm = on-false (ap (λ n. eqb n 0) (a .arms) ∙ some-left ticks) _ _ ∙ on-true (a .line) _ _ in
+      rw (by-rule s (drives s) (a .state) rule)
+      (record {
+        state = a .state;
+        store = a .store;
+        loads = a .loads;
+        watch = a .watch;
+        arms = omega arith;
+        begun = a .begun;
+        spaces = a .spaces;
+        line = a .line;
+        pulled = a .pulled;
+        released = a .released;
+        clear = a .clear;
+      })
 
-  module _ (fits : FitsBuffer bits) {j : ℕ} (more : j < halfBitsOf (length bits)) {level : Bool} {s : DaliBitbangPhy} where
-    -- not armed, and not every half-bit is begun
-    holds-or-drives : {left : ℕ} → Sender bits 0 j left level s → ruleOf s ≡ pick (eqb left 0) (Drive (levelAt bits (4 * j))) Hold
+  module _ (fits : FitsBuffer bits) {j : ℕ} (more : j < halfBitsOf (length bits)) {level : Bool} {s : DaliBitbangPhy} (sampled : Bool)
+      (none : clashes s sampled ≡ false) where
+    -- not armed, not every half-bit is begun, and no clash
+    holds-or-drives : {left : ℕ} → Sender bits policy 0 j left level s → ruleOf s sampled ≡ pick (eqb left 0) (Drive (levelAt bits (4 * j))) Hold
     unfolding txStep
     holds-or-drives {left} a =
         let drives-wave = on-false (lt-leb 7 (j / 8) (omega arith)) _ _ ∙ ap Drive (read-back bits j (omega arith)) in
         on-true (ap (λ n. eqb n 0) (a .arms)) _ _
         ∙ on-false (lt-leb (s .«tx_hb» .«tx_hb_len») (s .core .tx .«tx_hb_cnt») (omega arith)) _ _
-        ∙ on-false (no-clash (s .core .tx) _ _ (drives s) (a .pulled)) _ _
+        ∙ on-false none _ _
         ∙ rw (a .spaces, a .begun, a .store) (ap (λ rule. pick (eqb left 0) rule Hold) drives-wave)
 
-    pub hold : {left : ℕ} → Sender bits 0 j (suc left) level s → Sender bits 0 j left level (next s)
+    pub hold : {left : ℕ} → Sender bits policy 0 j (suc left) level s → Sender bits policy 0 j left level (tickOf s sampled)
     unfolding stepped held heardOf
     hold {left} a =
-        rw (by-rule s (a .state) (holds-or-drives a ∙ on-false (some-left left) _ _))
-        (record { state = a .state; store = a .store; loads = a .loads; arms = a .arms; begun = a .begun; spaces = omega arith; line = a .line; pulled = a .pulled })
+        rw (by-rule s sampled (a .state) (holds-or-drives a ∙ on-false (some-left left) _ _))
+        (record {
+          state = a .state;
+          store = a .store;
+          loads = a .loads;
+          watch = a .watch;
+          arms = a .arms;
+          begun = a .begun;
+          spaces = omega arith;
+          line = a .line;
+          pulled = a .pulled;
+          released = a .released;
+          clear = a .clear;
+        })
 
-    pub drive : Sender bits 0 j 0 level s → Sender bits 0 (j + 1) 3 (levelAt bits (4 * j)) (next s)
+    pub drive : Sender bits policy 0 j 0 level s → Sender bits policy 0 (j + 1) 3 (levelAt bits (4 * j)) (tickOf s sampled)
     unfolding stepped driven heardOf
     drive a =
-        rw (by-rule s (a .state) (holds-or-drives a ∙ on-true refl _ _))
-        (record { state = a .state; store = a .store; loads = a .loads; arms = a .arms; begun = omega arith; spaces = refl; line = refl; pulled = λ e. ap bit e })
+        rw (by-rule s sampled (a .state) (holds-or-drives a ∙ on-true refl _ _))
+        (record {
+          state = a .state;
+          store = a .store;
+          loads = a .loads;
+          watch = a .watch;
+          arms = a .arms;
+          begun = omega arith;
+          spaces = refl;
+          line = refl;
+          pulled = λ e. ap bit e;
+          released = λ _ e. ap bit e;
+          clear = a .clear;
+        })
 
--- ---- an Idle station that leaves the line high
+-- ---- an Idle station that leaves the line high, with nothing to tell
 abbrev pub Rests : DaliBitbangPhy → Type 0
-Rests s = IsIdle s × (drives s ≡ high)
+Rests s = IsIdle s × (drives s ≡ high) × Clear s
 
 -- every half-bit is begun
-pub finish : (bits : List Bool) {left : ℕ} {level : Bool} {s : DaliBitbangPhy} → Sender bits 0 (halfBitsOf (length bits)) left level s → Rests (next s)
-unfolding stepped idled txStep
-finish bits {s = s} a =
+pub finish : {bits : List Bool} {policy : CollisionPolicy} {left : ℕ} {level : Bool} {s : DaliBitbangPhy}
+    → Sender bits policy 0 (halfBitsOf (length bits)) left level s → Rests (next s)
+unfolding stepped idled txStep heardOf
+finish {s = s} a =
     let all = le-leb (s .«tx_hb» .«tx_hb_len») (s .core .tx .«tx_hb_cnt») (omega arith) in
-    let rule : ruleOf s ≡ End = on-true (ap (λ n. eqb n 0) (a .arms)) _ _ ∙ on-true all _ _ in
-    rw (by-rule s (a .state) rule) (refl, refl)
+    let rule : ruleOf s (drives s) ≡ End = on-true (ap (λ n. eqb n 0) (a .arms)) _ _ ∙ on-true all _ _ in
+    rw (by-rule s (drives s) (a .state) rule) (refl, refl, a .clear)
 
 pub rest : (s : DaliBitbangPhy) → Rests s → Rests (next s)
 unfolding tickOf actOf isRx pick machine.actOf idleTick heardOf
-rest s r = rw (r .0, r .1) (refl, refl)
+rest s r = rw (r .0, r .1) (refl, refl, r .2)

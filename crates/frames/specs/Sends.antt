@@ -10,7 +10,9 @@ use Rattle.halfbits.specs.HalfBits.{halfBitsOf}
 use Rattle.fsm.specs.declared.DaliBitbangPhy.{DaliBitbangPhy}
 use Rattle.fsm.specs.declared.Started.{Started}
 use Rattle.fsm.specs.declared.StartAnswer.the-variants as start
+use Rattle.fsm.specs.declared.TxPollResult.the-variants.{Ok}
 use Rattle.fsm.specs.Starting.{startTx, startAnswer}
+use Rattle.fsm.specs.Polling.{polled}
 use Rattle.frames.specs.Ticks.{drives, IsIdle, IsSending, alone}
 
 -- ---- what is sent
@@ -33,12 +35,13 @@ idleAt bits = 8 * bits + 25
 
 -- ---- what is driven
 -- A started station that hears itself alone drives three high ticks and then, from tick 4 on, the wave and nothing else; tick 0 is the
--- start itself. It is sending until it is Idle again.
+-- start itself. It is sending until it is Idle again, and then tells so.
 pub record Sends (bits : List Bool) (s : DaliBitbangPhy) : Type 0 where
   pub armed : (tick : ℕ) → tick < 4 → drives (alone tick s) ≡ high
   pub wave : (tick : ℕ) → drives (alone (4 + tick) s) ≡ levelAt bits tick
   pub sending : (tick : ℕ) → tick < idleAt (length bits) → IsSending (alone tick s)
   pub idle : (tick : ℕ) → idleAt (length bits) ≤ tick → IsIdle (alone tick s)
+  pub sent : (tick : ℕ) → idleAt (length bits) ≤ tick → polled (alone tick s) .answer ≡ Ok
 
 -- The start is not refused, and the frame is sent.
 abbrev pub Sent : Start → DaliBitbangPhy → HalfBitBuffer → List Bool → Type 0
