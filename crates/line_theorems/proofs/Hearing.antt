@@ -1,0 +1,169 @@
+-- What the stations of a line hear, tick after tick, and what one that does not send keeps meanwhile. Assumes nothing.
+use Prim.Native.Nat.{ℕ, zero, suc, _+_, _<_, min}
+use native.Mathlib.Nat.{add-zero, add-suc}
+use native.Mathlib.Omega.{arith}
+use mathlib.Core.Bool.{Bool, true, false, false≢true}
+use mathlib.Core.List.{List}
+use mathlib.Core.Path.{_≡_, refl, ap, _∙_}
+use lib.Dec.{ltb}
+use lib.ListN.{length, getD}
+use Rattle.laws.specs.Pick.{pick}
+use Rattle.laws.proofs.Picked.{cases}
+use Rattle.machine.specs.declared.BusState.{BusState}
+use Rattle.machine.specs.declared.BusState.the-variants as bus
+use Rattle.machine.specs.declared.RxState.{RxState}
+use Rattle.machine.specs.declared.RxState.the-variants.{Receiving, Completed}
+use Rattle.machine.specs.declared.Told.{Told}
+use Rattle.machine.specs.declared.Core.{Core}
+use Rattle.machine.specs.Groups.{received}
+use Rattle.machine.specs.Runs.{heardOf}
+use Rattle.machine.specs.BecomingIdle.{idled}
+use Rattle.machine.specs.Idle.{entered, idleTick}
+use Rattle.machine.specs.Sampling.{sampled, goesOn, finished, rxTick}
+use Rattle.machine.specs.Acting as machine
+use Rattle.fsm.specs.declared.DaliBitbangPhy.{DaliBitbangPhy}
+use Rattle.fsm.specs.Station.{newStation}
+use Rattle.fsm.specs.Receiving.{finishedRx, storedRx}
+use Rattle.fsm.specs.Ticking.{isRx, actOf, tickOf}
+use Rattle.fsm.specs.Starting.{hears}
+use Rattle.reached.specs.Calls as station
+use Rattle.reached.specs.Calls.{Reached, after}
+use Rattle.reached.proofs.Holding.{invariants}
+use Rattle.bench_line.specs.declared.BenchLine.{BenchLine}
+use Rattle.bench_line.specs.Line.{stationsOn, stationAt, levelLeft, lineTicked}
+use Rattle.bench_line.proofs.Laws.{left-high, left-low}
+use Rattle.frames.specs.Ticks.{drives, IsIdle, heard}
+use Rattle.line_theorems.specs.Reached.{lineAfter, tick, ReachedLine, called}
+use Rattle.line_theorems.specs.Lines.{LineHolds}
+use Rattle.line_theorems.specs.OnLine.{ticksOn}
+use Rattle.line_theorems.proofs.Lines.{ticked-within, line-invariants}
+
+-- ---- a line that ticks
+-- every station samples the level that the line was left at
+pub tick-at : (l : BenchLine) → length (l .stations) ≡ 4 → (number : ℕ) → number < stationsOn l
+    → stationAt (lineTicked l) number ≡ tickOf (stationAt l number) (l .level)
+unfolding lineTicked
+tick-at l whole number on = ticked-within (stationsOn l) number (l .level) (l .stations) newStation on (omega (arith, whole))
+
+pub ticks-reached : (n : ℕ) (l : BenchLine) → ReachedLine l → ReachedLine (ticksOn n l)
+unfolding ticksOn lineAfter
+ticks-reached zero l r = r
+ticks-reached (suc n) l r = called tick (ticks-reached n l r)
+
+pub same-count : (n : ℕ) (l : BenchLine) → ticksOn n l .count ≡ l .count
+unfolding ticksOn lineTicked
+same-count zero l = refl
+same-count (suc n) l = same-count n l
+
+-- the level that so many ticks leave, which the next one samples
+abbrev pub levels : BenchLine → ℕ → Bool
+levels l t = ticksOn t l .level
+
+pub on-line : (l : BenchLine) → ReachedLine l → (number : ℕ) → number < stationsOn l → (n : ℕ)
+    → stationAt (ticksOn n l) number ≡ heard n (levels l) (stationAt l number)
+unfolding ticksOn heard
+on-line l r number on zero = refl
+on-line l r number on (suc n) =
+    tick-at (ticksOn n l) (line-invariants (ticksOn n l) (ticks-reached n l r) .places) number (omega (arith, same-count n l))
+    ∙ ap (λ (s : DaliBitbangPhy). tickOf s (levels l n)) (on-line l r number on n)
+
+-- ---- the level that is left
+all-high : (n : ℕ) (ss : List DaliBitbangPhy) → ((i : ℕ) → i < n → drives (getD ss i newStation) ≡ true) → levelLeft n ss ≡ true
+unfolding levelLeft
+all-high zero ss high = refl
+all-high (suc n) ss high = left-high n newStation ss (all-high n ss (λ i below. high i (omega arith))) (high n (omega arith))
+
+pub left-if-all-high : (l : BenchLine) → LineHolds l → ((number : ℕ) → number < stationsOn l → drives (stationAt l number) ≡ true) → l .level ≡ true
+left-if-all-high l h high = h .left ∙ all-high (stationsOn l) (l .stations) high
+
+pub left-if-one-low : (l : BenchLine) → LineHolds l → (number : ℕ) → number < stationsOn l → drives (stationAt l number) ≡ false → l .level ≡ false
+left-if-one-low l h number on low = h .left ∙ left-low number (stationsOn l) newStation (l .stations) on (omega (arith, h .places)) low
+
+-- ---- many ticks of a station
+pub heard-more : (m n : ℕ) (level : ℕ → Bool) (s : DaliBitbangPhy) → heard (m + n) level s ≡ heard n (λ t. level (m + t)) (heard m level s)
+unfolding heard
+heard-more m zero level s = rw (add-zero m)
+heard-more m (suc n) level s = rw (add-suc m n) (ap (λ (before : DaliBitbangPhy). tickOf before (level (m + n))) (heard-more m n level s))
+
+pub heard-same : (n : ℕ) (these those : ℕ → Bool) (s : DaliBitbangPhy) → ((t : ℕ) → t < n → these t ≡ those t) → heard n these s ≡ heard n those s
+unfolding heard
+heard-same zero these those s same = refl
+heard-same (suc n) these those s same =
+    ap (tickOf (heard n these s)) (same n (omega arith))
+    ∙ ap (λ (before : DaliBitbangPhy). tickOf before (those n)) (heard-same n these those s (λ t below. same t (omega arith)))
+
+pub heard-reached : (n : ℕ) (level : ℕ → Bool) (s : DaliBitbangPhy) → Reached s → Reached (heard n level s)
+unfolding heard after
+heard-reached zero level s r = r
+heard-reached (suc n) level s r = station.called (station.tick (level n)) (heard-reached n level s r)
+
+-- ---- a station that does not send
+-- Idle or in Rx, with what its last send left to tell: the clashes, whether the line was idle after the break, and whether it yielded
+pub record Listens (collision : ℕ) (found yielded : Bool) (s : DaliBitbangPhy) : Type 0 where
+  pub hearing : hears (s .core .bus .«bus_state») ≡ true
+  pub collisions : s .core .told .«tx_collision» ≡ collision
+  pub marked : s .core .told .«tx_idle_after_break» ≡ found
+  pub yields : s .core .told .«tx_yielded» ≡ yielded
+
+-- Such a core goes on hearing, and of what it tells only the mark of a capture may be another.
+record Keeps (c d : Core) : Type 0 where
+  hearing : hears (d .bus .«bus_state») ≡ true
+  mark : RxState
+  told : d .told ≡ received c mark
+
+module _ (c : Core) (level : Bool) (h : hears (c .bus .«bus_state») ≡ true) where
+  idle-keeps : Keeps c (idleTick (heardOf c level) level)
+  unfolding idleTick entered heardOf hears
+  idle-keeps =
+      cases (Keeps c) level (λ _. record { hearing = h; mark = _; told = refl })
+      (λ _. cases (Keeps c) (ltb (min (c .bus .«rx_debounce» + 1) 255) 2)
+      (λ _. record { hearing = h; mark = _; told = refl })
+      (λ _. record { hearing = refl; mark = Receiving; told = refl }))
+
+  rx-keeps : Keeps c (rxTick (heardOf c level) level)
+  unfolding rxTick finished idled heardOf hears
+  rx-keeps =
+      cases (Keeps c) (goesOn (sampled (c .rx) level)) (λ _. record { hearing = h; mark = _; told = refl })
+      (λ _. record { hearing = refl; mark = Completed; told = refl })
+
+stored-core : (s : DaliBitbangPhy) (c : Core) (level : Bool) → storedRx s c level .core ≡ rxTick c level
+unfolding storedRx finishedRx
+stored-core s c level = cases (λ (s′ : DaliBitbangPhy). s′ .core ≡ rxTick c level) (goesOn (sampled (c .rx) level)) (λ _. refl) (λ _. refl)
+
+module _ (s : DaliBitbangPhy) (level : Bool) (h : hears (s .core .bus .«bus_state») ≡ true) where
+  act-keeps : (state : BusState) → hears state ≡ true → Keeps (s .core) (actOf state s (heardOf (s .core) level) level .core)
+  unfolding actOf isRx machine.actOf hears pick
+  act-keeps bus.Idle e = idle-keeps (s .core) level h
+  act-keeps bus.Rx e = rw (stored-core s (heardOf (s .core) level) level) (rx-keeps (s .core) level h)
+  act-keeps bus.Tx e = absurd (false≢true e)
+  act-keeps bus.CollisionTx e = absurd (false≢true e)
+
+module _ {collision : ℕ} {found yielded : Bool} where
+  pub listens-next : (s : DaliBitbangPhy) (level : Bool) → Listens collision found yielded s → Listens collision found yielded (tickOf s level)
+  unfolding tickOf
+  listens-next s level h =
+      let k = act-keeps s level (h .hearing) (s .core .bus .«bus_state») (h .hearing) in
+      record {
+        hearing = k .hearing;
+        collisions = ap (λ (told : Told). told .«tx_collision») (k .told) ∙ h .collisions;
+        marked = ap (λ (told : Told). told .«tx_idle_after_break») (k .told) ∙ h .marked;
+        yields = ap (λ (told : Told). told .«tx_yielded») (k .told) ∙ h .yields;
+      }
+
+  pub listens-on : (n : ℕ) (level : ℕ → Bool) {s : DaliBitbangPhy} → Listens collision found yielded s → Listens collision found yielded (heard n level s)
+  unfolding heard
+  listens-on zero level h = h
+  listens-on (suc n) level h = listens-next _ (level n) (listens-on n level h)
+
+pub listener-drives : (s : DaliBitbangPhy) → Reached s → hears (s .core .bus .«bus_state») ≡ true → drives s ≡ true
+listener-drives s r = invariants s r .released
+
+-- one that is Idle stays so while the line is high
+quiet-next : (s : DaliBitbangPhy) → IsIdle s → IsIdle (tickOf s true)
+unfolding tickOf actOf isRx machine.actOf idleTick heardOf pick
+quiet-next s idle = rw idle refl
+
+pub quiet : (n : ℕ) (level : ℕ → Bool) (s : DaliBitbangPhy) → IsIdle s → ((t : ℕ) → t < n → level t ≡ true) → IsIdle (heard n level s)
+unfolding heard
+quiet zero level s idle high = idle
+quiet (suc n) level s idle high = rw (high n (omega arith)) (quiet-next (heard n level s) (quiet n level s idle (λ t below. high t (omega arith))))

@@ -1,0 +1,12 @@
+pub mod Lines
+pub mod Hearing
+pub mod AsOne
+pub mod Breaking
+pub mod Differing
+pub mod Starting
+pub mod Agreeing
+pub mod LoneSender
+pub mod Clashing
+pub mod TwoSenders
+pub mod Shown
+pub mod BenchRows

@@ -1,0 +1,315 @@
+-- Lines and senders that the theorems speak of: a new line, and one on which a frame was sent before and policies were set. Assumes nothing.
+use Prim.Native.Nat.{ℕ, zero, suc, _<_, min}
+use native.Mathlib.Omega.{arith}
+use native.Mathlib.Decide.{ℕ-discrete}
+use mathlib.Core.Bool.{true, false, false≢true}
+use mathlib.Core.Path.{_≡_, refl, sym, _∙_, ap, subst}
+use lib.Dec.{eqb}
+use lib.ListN.{length}
+use lib.Seq.{getD-set-same, getD-set-other}
+use borrow.Author.Tests.{lt-ltb}
+use Rattle.laws.specs.Packed.{packed}
+use Rattle.laws.specs.Pick.{pick}
+use Rattle.laws.specs.Tabulate.{tabulate}
+use Rattle.laws.proofs.Picked.{on-true}
+use Rattle.halfbits.specs.Frame.{Frame, bytesOf, bitAt, bitsOf, AreBytes}
+use Rattle.halfbits.specs.Wave.{bitWave, bitWaves, waveOf, levelAt}
+use Rattle.halfbits.specs.HalfBits.{pulls, storeOf, bufferOf}
+use Rattle.halfbits.specs.Encoding.{isBitCount, frameOf, encodedOf}
+use Rattle.machine.specs.declared.CollisionPolicy.{CollisionPolicy}
+use Rattle.machine.specs.declared.CollisionPolicy.the-variants.{Auto, Off, On}
+use Rattle.machine.specs.Sending.{watchesOf}
+use Rattle.fsm.specs.declared.DaliBitbangPhy.{DaliBitbangPhy}
+use Rattle.fsm.specs.Station.{newCore, newStation}
+use Rattle.fsm.specs.Calls.{withPolicy}
+use Rattle.bench_line.specs.declared.BenchLine.{BenchLine}
+use Rattle.bench_line.specs.declared.LineChanged.{LineChanged}
+use Rattle.bench_line.specs.Line.{stationsOn, stationAt, withStation, newLine}
+use Rattle.bench_line.specs.Refusals.{isCount}
+use Rattle.bench_line.specs.Calls.{changedAt}
+use Rattle.frames.specs.Ticks.{IsIdle}
+use Rattle.frames.specs.Sends.{Start, by-start-tx, by-start-answer}
+use Rattle.line_theorems.specs.Reached.{lineAfter, policy, ReachedLine, new-line, called}
+use Rattle.line_theorems.specs.OnLine.{ticksOn, AllIdle, Sender, bufferIn, IsSender, startedOn}
+use Rattle.line_theorems.specs.LoneSender.{Alone}
+use Rattle.line_theorems.specs.TwoSenders.{Watches, Pair, Agreed, pullsIn, FirstDifference, Clashed}
+use Rattle.line_theorems.specs.BenchRows.{zeros, eighty, ClashRow}
+use Rattle.line_theorems.proofs.Lines.{line-invariants}
+use Rattle.line_theorems.proofs.Hearing.{ticks-reached, same-count}
+use Rattle.line_theorems.proofs.Starting.{same-stations, reached-on}
+use Rattle.line_theorems.proofs.LoneSender.{lone-sender}
+use Rattle.line_theorems.proofs.TwoSenders.{equal-frames, different-frames, clash-ticks}
+
+-- ---- a new line
+auto-not-off : Auto ≡ Off → ⊥
+unfolding watchesOf
+auto-not-off e = false≢true (sym (ap (λ p. watchesOf p 0) e))
+
+on-not-off : On ≡ Off → ⊥
+unfolding watchesOf
+on-not-off e = false≢true (sym (ap (λ p. watchesOf p 0) e))
+
+new-station-at : (count n : ℕ) → stationAt (newLine count) n ≡ newStation
+unfolding newLine
+new-station-at count zero = refl
+new-station-at count (suc zero) = refl
+new-station-at count (suc (suc zero)) = refl
+new-station-at count (suc (suc (suc zero))) = refl
+new-station-at count (suc (suc (suc (suc n)))) = refl
+
+pub new-all-idle : (count : ℕ) → AllIdle (newLine count)
+unfolding newStation newCore
+new-all-idle count n on = subst (λ (s : DaliBitbangPhy). IsIdle s) (sym (new-station-at count n)) refl
+
+two-reached : ReachedLine (newLine 2)
+unfolding isCount pick
+two-reached = new-line 2 refl
+
+four-reached : ReachedLine (newLine 4)
+unfolding isCount pick
+four-reached = new-line 4 refl
+
+-- ---- senders
+abbrev sends-8 : ℕ → Start → ℕ → Sender
+sends-8 number by first = record { number = number; by = by; bits = 8; first = first; second = 0; third = 0 }
+
+abbrev sends-16 : ℕ → Start → ℕ → ℕ → Sender
+sends-16 number by first second = record { number = number; by = by; bits = 16; first = first; second = second; third = 0 }
+
+abbrev sends-24 : ℕ → Start → ℕ → ℕ → ℕ → Sender
+sends-24 number by first second third = record { number = number; by = by; bits = 24; first = first; second = second; third = third }
+
+-- any bytes
+are-1 : (x : ℕ) → x < 256 → AreBytes (bytesOf (frameOf 8 x 0 0))
+unfolding bytesOf frameOf pick
+are-1 x h zero = h
+are-1 x h (suc i) = omega arith
+
+are-2 : (x y : ℕ) → x < 256 → y < 256 → AreBytes (bytesOf (frameOf 16 x y 0))
+unfolding bytesOf frameOf pick
+are-2 x y h k zero = h
+are-2 x y h k (suc zero) = k
+are-2 x y h k (suc (suc i)) = omega arith
+
+are-3 : (x y z : ℕ) → x < 256 → y < 256 → z < 256 → AreBytes (bytesOf (frameOf 24 x y z))
+unfolding bytesOf frameOf pick
+are-3 x y z h k m zero = h
+are-3 x y z h k m (suc zero) = k
+are-3 x y z h k m (suc (suc zero)) = m
+are-3 x y z h k m (suc (suc (suc i))) = omega arith
+
+module _ (l : BenchLine) where
+  is-8 : (n : ℕ) (by : Start) (x : ℕ) → n < stationsOn l → x < 256 → IsSender l (sends-8 n by x)
+  unfolding isBitCount pick
+  is-8 n by x on h = record { on = on; counts = refl; are-bytes = are-1 x h }
+
+  is-16 : (n : ℕ) (by : Start) (x y : ℕ) → n < stationsOn l → x < 256 → y < 256 → IsSender l (sends-16 n by x y)
+  unfolding isBitCount pick
+  is-16 n by x y on h k = record { on = on; counts = refl; are-bytes = are-2 x y h k }
+
+  is-24 : (n : ℕ) (by : Start) (x y z : ℕ) → n < stationsOn l → x < 256 → y < 256 → z < 256 → IsSender l (sends-24 n by x y z)
+  unfolding isBitCount pick
+  is-24 n by x y z on h k m = record { on = on; counts = refl; are-bytes = are-3 x y z h k m }
+
+-- ---- one sender on a new line of four
+pub new-line-hears : (x y z : ℕ) → x < 256 → y < 256 → z < 256 → (by : Start) → Alone (newLine 4) (sends-24 2 by x y z)
+unfolding newLine
+new-line-hears x y z h k m by = lone-sender (newLine 4) four-reached (new-all-idle 4) (sends-24 2 by x y z) (is-24 (newLine 4) 2 by x y z (omega arith) h k m)
+
+-- ---- two senders on a new line
+watching : (count : ℕ) (a : Sender) → pick (eqb (a .bits) 16) true (eqb (a .bits) 24) ≡ true → Watches (newLine count) a
+unfolding newStation newCore
+watching count a long = record {
+  long = long;
+  not-off = λ off. auto-not-off (sym (ap (λ (s : DaliBitbangPhy). s .core .«collision_policy») (new-station-at count (a .number))) ∙ off);
+}
+
+row-pair : Pair (newLine 2) zeros eighty
+unfolding newLine pick
+row-pair = record {
+  one = is-16 (newLine 2) 0 by-start-tx 0 0 (omega arith) (omega arith) (omega arith);
+  other = is-16 (newLine 2) 1 by-start-tx 128 0 (omega arith) (omega arith) (omega arith);
+  one-watches = watching 2 zeros refl;
+  other-watches = watching 2 eighty refl;
+  apart = λ e. let none : ⊥ = omega (arith, e) in none;
+}
+
+-- both stores, as far as it matters: the start, the bit in which they differ, and what follows
+as-written : (pullsIn (bufferIn zeros) 0 ≡ pullsIn (bufferIn eighty) 0) × (pullsIn (bufferIn zeros) 1 ≡ pullsIn (bufferIn eighty) 1)
+    × (pullsIn (bufferIn zeros) 2 ≡ false) × (pullsIn (bufferIn eighty) 2 ≡ true) × (pullsIn (bufferIn eighty) 3 ≡ false)
+unfolding pullsIn encodedOf isBitCount frameOf bufferOf storeOf tabulate packed pulls levelAt waveOf bitWaves bitWave bitsOf bytesOf bitAt pick
+as-written = (refl, refl, refl, refl, refl)
+
+differ-at-2 : FirstDifference (bufferIn zeros) (bufferIn eighty) 2
+differ-at-2 = record { same = before; differs = λ e. false≢true (sym (as-written .2) ∙ e ∙ as-written .3) }
+  where
+    before : (i : ℕ) → i < 2 → pullsIn (bufferIn zeros) i ≡ pullsIn (bufferIn eighty) i
+    before zero h = as-written .0
+    before (suc zero) h = as-written .1
+    before (suc (suc i)) h = absurd (let none : ⊥ = omega arith in none)
+
+pub zeros-against-eighty : ClashRow
+unfolding pick
+zeros-against-eighty =
+    let (_, _, releases, pulls, next) = as-written in
+    let (one, other) = clash-ticks (newLine 2) two-reached (new-all-idle 2) zeros eighty row-pair 2 differ-at-2 in
+    (rw releases at one, rw (pulls, next) at other)
+
+-- as many bytes as a frame has
+bytes-in : Frame → ℕ
+bytes-in frame = length (bytesOf frame)
+
+-- Any bytes on a line of four, in the hands of stations 3 and 1: frames that are equal, and 16 bits that are the beginning of 24.
+module _ (x y z : ℕ) (h : x < 256) (k : y < 256) (m : z < 256) (by other-by : Start) where
+  equal-pair : Pair (newLine 4) (sends-16 3 by x y) (sends-16 1 other-by x y)
+  unfolding newLine pick
+  equal-pair = record {
+    one = is-16 (newLine 4) 3 by x y (omega arith) h k;
+    other = is-16 (newLine 4) 1 other-by x y (omega arith) h k;
+    one-watches = watching 4 (sends-16 3 by x y) refl;
+    other-watches = watching 4 (sends-16 1 other-by x y) refl;
+    apart = λ e. let none : ⊥ = omega (arith, e) in none;
+  }
+
+  pub equal-agree : Agreed (newLine 4) (sends-16 3 by x y) (sends-16 1 other-by x y)
+  equal-agree = equal-frames (newLine 4) four-reached (new-all-idle 4) (sends-16 3 by x y) (sends-16 1 other-by x y) equal-pair refl
+
+  longer-pair : Pair (newLine 4) (sends-16 3 by x y) (sends-24 1 other-by x y z)
+  unfolding newLine pick
+  longer-pair = record {
+    one = is-16 (newLine 4) 3 by x y (omega arith) h k;
+    other = is-24 (newLine 4) 1 other-by x y z (omega arith) h k m;
+    one-watches = watching 4 (sends-16 3 by x y) refl;
+    other-watches = watching 4 (sends-24 1 other-by x y z) refl;
+    apart = λ e. let none : ⊥ = omega (arith, e) in none;
+  }
+
+  pub beginning-clashes : (j : ℕ) × Clashed (newLine 4) (sends-16 3 by x y) (sends-24 1 other-by x y z) j
+  unfolding bytes-in bytesOf frameOf pick
+  beginning-clashes =
+      different-frames (newLine 4) four-reached (new-all-idle 4) (sends-16 3 by x y) (sends-24 1 other-by x y z) longer-pair
+      (λ e. let none : ⊥ = omega (arith, ap bytes-in e) in none)
+
+-- ---- a line with a history
+-- a policy is set: all else stays
+module _ (l : BenchLine) (reached : ReachedLine l) (idle : AllIdle l) (number : ℕ) (on : number < stationsOn l) (p : CollisionPolicy) where
+  abbrev set-line : BenchLine
+  set-line = lineAfter (policy number p) l
+
+  set-is : set-line ≡ withStation l number (withPolicy (stationAt l number) p)
+  unfolding lineAfter changedAt
+  set-is = ap (λ (r : LineChanged). r .line) (on-true (lt-ltb number (stationsOn l) on) _ _)
+
+  set-stations : stationsOn set-line ≡ stationsOn l
+  set-stations = rw set-is
+
+  set-here : stationAt set-line number ≡ withPolicy (stationAt l number) p
+  set-here = rw set-is (getD-set-same (l .stations) number _ newStation (omega (arith, line-invariants l reached .places, on)))
+
+  set-there : (n : ℕ) → (n ≡ number → ⊥) → stationAt set-line n ≡ stationAt l n
+  set-there n apart = rw set-is (getD-set-other (l .stations) number n _ newStation apart)
+
+  set-idle : AllIdle set-line
+  unfolding withPolicy
+  set-idle n here = go (ℕ-discrete n number)
+    where
+      go : Dec (n ≡ number) → IsIdle (stationAt set-line n)
+      go (yes e) = subst (λ m. IsIdle (stationAt set-line m)) (sym e) (subst (λ (s : DaliBitbangPhy). IsIdle s) (sym set-here) (idle number on))
+      go (no apart) = subst (λ (s : DaliBitbangPhy). IsIdle s) (sym (set-there n apart)) (idle n (omega (arith, here, set-stations)))
+
+  set-policy : stationAt set-line number .core .«collision_policy» ≡ p
+  unfolding withPolicy
+  set-policy = ap (λ (s : DaliBitbangPhy). s .core .«collision_policy») set-here
+
+-- Station 0 of four has sent 8 bits, which nobody has taken; then station 0 is told to watch always and station 2 by itself.
+abbrev earlier : Sender
+earlier = sends-8 0 by-start-answer 5
+
+earlier-is : IsSender (newLine 4) earlier
+unfolding newLine
+earlier-is = is-8 (newLine 4) 0 by-start-answer 5 (omega arith) (omega arith)
+
+abbrev sent-once : BenchLine
+sent-once = ticksOn 230 (startedOn (newLine 4) earlier .line)
+
+sent-reached : ReachedLine sent-once
+sent-reached = ticks-reached 230 (startedOn (newLine 4) earlier .line) (reached-on (newLine 4) earlier earlier-is four-reached)
+
+sent-idle : AllIdle sent-once
+sent-idle = lone-sender (newLine 4) four-reached (new-all-idle 4) earlier earlier-is .rests
+
+sent-four : stationsOn sent-once ≡ 4
+unfolding newLine
+sent-four = ap (λ n. min n 4) (same-count 230 (startedOn (newLine 4) earlier .line)) ∙ same-stations (newLine 4) earlier earlier-is
+
+abbrev watched-once : BenchLine
+watched-once = lineAfter (policy 0 On) sent-once
+
+abbrev old-line : BenchLine
+old-line = lineAfter (policy 2 Auto) watched-once
+
+watched-four : stationsOn watched-once ≡ 4
+watched-four = set-stations sent-once sent-reached sent-idle 0 (omega (arith, sent-four)) On ∙ sent-four
+
+watched-idle : AllIdle watched-once
+watched-idle = set-idle sent-once sent-reached sent-idle 0 (omega (arith, sent-four)) On
+
+watched-reached : ReachedLine watched-once
+watched-reached = called (policy 0 On) sent-reached
+
+old-reached : ReachedLine old-line
+old-reached = called (policy 2 Auto) watched-reached
+
+old-idle : AllIdle old-line
+old-idle = set-idle watched-once watched-reached watched-idle 2 (omega (arith, watched-four)) Auto
+
+old-four : stationsOn old-line ≡ 4
+old-four = set-stations watched-once watched-reached watched-idle 2 (omega (arith, watched-four)) Auto ∙ watched-four
+
+zero-watches : stationAt old-line 0 .core .«collision_policy» ≡ On
+zero-watches =
+    ap (λ (s : DaliBitbangPhy). s .core .«collision_policy»)
+    (set-there watched-once watched-reached watched-idle 2 (omega (arith, watched-four)) Auto 0 (λ e. let none : ⊥ = omega (arith, e) in none))
+    ∙ set-policy sent-once sent-reached sent-idle 0 (omega (arith, sent-four)) On
+
+two-watches : stationAt old-line 2 .core .«collision_policy» ≡ Auto
+two-watches = set-policy watched-once watched-reached watched-idle 2 (omega (arith, watched-four)) Auto
+
+-- It is heard again, whoever sends, and in whatever way.
+pub old-line-hears : (n : ℕ) → n < 4 → (x y : ℕ) → x < 256 → y < 256 → (by : Start) → Alone old-line (sends-16 n by x y)
+old-line-hears n on x y h k by = lone-sender old-line old-reached old-idle (sends-16 n by x y) (is-16 old-line n by x y (omega (arith, on, old-four)) h k)
+
+-- Two that send on it agree if their frames are equal, and else know that they clashed.
+module _ (x y : ℕ) (h : x < 256) (k : y < 256) (u v w : ℕ) (p : u < 256) (q : v < 256) (r : w < 256) (by other-by : Start) where
+  abbrev one : Sender
+  one = sends-24 0 by u v w
+
+  abbrev short : Sender
+  short = sends-16 2 other-by x y
+
+  abbrev long : Sender
+  long = sends-24 2 other-by u v w
+
+  one-on-old : IsSender old-line one
+  one-on-old = is-24 old-line 0 by u v w (omega (arith, old-four)) p q r
+
+  old-pair : (other : Sender) → other .number ≡ 2 → IsSender old-line other → pick (eqb (other .bits) 16) true (eqb (other .bits) 24) ≡ true → Pair old-line one other
+  unfolding pick
+  old-pair other at-2 is wide = record {
+    one = one-on-old;
+    other = is;
+    one-watches = record { long = refl; not-off = λ off. on-not-off (sym zero-watches ∙ off) };
+    other-watches = record { long = wide; not-off = λ off. auto-not-off (sym (ap (λ n. stationAt old-line n .core .«collision_policy») at-2 ∙ two-watches) ∙ off) };
+    apart = λ e. let none : ⊥ = omega (arith, e, at-2) in none;
+  }
+
+  pub old-line-agrees : Agreed old-line one long
+  unfolding pick
+  old-line-agrees =
+      equal-frames old-line old-reached old-idle one long (old-pair long refl (is-24 old-line 2 other-by u v w (omega (arith, old-four)) p q r) refl) refl
+
+  pub old-line-clashes : (j : ℕ) × Clashed old-line one short j
+  unfolding bytes-in bytesOf frameOf pick
+  old-line-clashes =
+      different-frames old-line old-reached old-idle one short (old-pair short refl (is-16 old-line 2 other-by x y (omega (arith, old-four)) h k) refl)
+      (λ e. let none : ⊥ = omega (arith, ap bytes-in e) in none)

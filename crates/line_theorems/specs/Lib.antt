@@ -1,0 +1,7 @@
+pub mod Reached
+pub mod Lines
+pub mod OnLine
+pub mod LoneSender
+pub mod TwoSenders
+pub mod Clash
+pub mod BenchRows

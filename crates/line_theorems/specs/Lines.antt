@@ -1,0 +1,25 @@
+-- What holds of every reached line. Assumes nothing.
+use Prim.Native.Nat.{ℕ, _≤_, _<_}
+use mathlib.Core.Path.{_≡_}
+use lib.ListN.{length}
+use Rattle.fsm.specs.Station.{newStation}
+use Rattle.reached.specs.Calls.{Reached}
+use Rattle.bench_line.specs.declared.BenchLine.{BenchLine}
+use Rattle.bench_line.specs.Line.{stationsOn, stationAt, levelLeft}
+use Rattle.line_theorems.specs.Reached.{ReachedLine}
+
+pub record LineHolds (l : BenchLine) : Type 0 where
+  -- one to four stations, in four places
+  pub from-one : 1 ≤ l .count
+  pub to-four : l .count ≤ 4
+  pub places : length (l .stations) ≡ 4
+  -- each is a station that calls lead to
+  pub reached : (number : ℕ) → number < stationsOn l → Reached (stationAt l number)
+  -- places past the count hold new stations
+  pub new-past : (number : ℕ) → stationsOn l ≤ number → stationAt l number ≡ newStation
+  -- the level is what the stations leave
+  pub left : l .level ≡ levelLeft (stationsOn l) (l .stations)
+
+-- for any calls from a new line
+abbrev pub LineInvariants : Type 0
+LineInvariants = (l : BenchLine) → ReachedLine l → LineHolds l

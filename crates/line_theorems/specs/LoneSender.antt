@@ -1,0 +1,44 @@
+-- Demand 3, one sender alone. Assumes nothing.
+use Prim.Native.Nat.{ℕ, _+_, _*_, _≤_, _<_}
+use mathlib.Core.Bool.{Bool, true}
+use mathlib.Core.List.{List, _∷_}
+use mathlib.Core.Path.{_≡_}
+use lib.ListN.{length, getD}
+use Rattle.laws.specs.Pick.{pick}
+use Rattle.halfbits.specs.Frame.{frameBits}
+use Rattle.fsm.specs.declared.StartAnswer.the-variants.{Started}
+use Rattle.fsm.specs.declared.TxPollResult.the-variants.{Ok}
+use Rattle.bench_line.specs.declared.BenchLine.{BenchLine}
+use Rattle.bench_line.specs.declared.LineStart.the-variants as start
+use Rattle.bench_line.specs.Line.{stationsOn}
+use Rattle.frames.specs.Sends.{idleAt}
+use Rattle.line_theorems.specs.Reached.{ReachedLine}
+use Rattle.line_theorems.specs.OnLine.{ticksOn, AllIdle, Sender, frameIn, IsSender, startedOn, HoldsFrame, Polls}
+
+-- A start_tx or start_answer on a line that is all Idle is not refused. After 230 ticks every other station holds the sender's frame, the
+-- sender says that it was sent, and all are Idle again. Whatever the policies are.
+pub record Alone (l : BenchLine) (a : Sender) : Type 0 where
+  pub started : startedOn l a .answer ≡ start.Told Started
+  pub heard : (listener : ℕ) → listener < stationsOn l → (listener ≡ a .number → ⊥) → HoldsFrame (frameIn a) listener (ticksOn 230 (startedOn l a .line))
+  pub sent : Polls Ok (a .number) (ticksOn 230 (startedOn l a .line))
+  pub rests : AllIdle (ticksOn 230 (startedOn l a .line))
+
+abbrev pub LoneSender : Type 0
+LoneSender = (l : BenchLine) → ReachedLine l → AllIdle l → (a : Sender) → IsSender l a → Alone l a
+
+-- ---- from which tick on
+-- the last half-bit that pulls low: the second half of the last bit, or the first if that bit is a 1
+abbrev pub lastPull : List Bool → ℕ
+lastPull bits = pick (getD (true ∷ bits) (length bits) true) (2 * length bits) (2 * length bits + 1)
+
+-- 88 or 92 for 8 bits, 152 or 156 for 16, 216 or 220 for 24
+abbrev pub completeAt : List Bool → ℕ
+completeAt bits = 24 + 4 * lastPull bits
+
+-- A listener's event is complete from that tick on, and the sender's frame is sent once it is Idle.
+abbrev pub LoneSenderFrom : Type 0
+LoneSenderFrom =
+    (l : BenchLine) → ReachedLine l → AllIdle l → (a : Sender) → IsSender l a → (ticks : ℕ)
+    → (completeAt (frameBits (frameIn a)) ≤ ticks → (listener : ℕ) → listener < stationsOn l → (listener ≡ a .number → ⊥)
+    → HoldsFrame (frameIn a) listener (ticksOn ticks (startedOn l a .line)))
+    × (idleAt (a .bits) ≤ ticks → Polls Ok (a .number) (ticksOn ticks (startedOn l a .line)))
