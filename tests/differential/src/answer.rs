@@ -8,20 +8,22 @@ use crate::encoder::Frame;
 use crate::fsm::{
     restart_gate_for, settle_ticks_on_wire, BusState, RxCompletedEvent, RxState, TxPollResult,
 };
+use crate::line::BenchLine;
 use crate::manchester::{
     is_better_decode, sample_weight, BestPhaseSearch, BitLengths, IsrDecode, PhaseDecode,
     PhaseSearch, SampleWindow, DECODED_BYTES,
 };
 use crate::original::rx_decode::{RxDecode, SniffedDecode, SniffedFrame};
-use crate::station::{HalfBits, Refusal, Station};
+use crate::station::{Call, HalfBits, Station};
 
 const BAD_LINE: &[u8] = b"?";
 const MOST_STEPS: u8 = 5;
 
-/// What stays from one line to the next. The bench line joins here when it is ported.
+/// What stays from one line to the next.
 pub struct Session {
     search: CountedSearch,
     station: Station,
+    line: BenchLine,
 }
 
 impl Session {
@@ -29,11 +31,16 @@ impl Session {
         Self {
             search: CountedSearch::new(0),
             station: Station::new(),
+            line: BenchLine::of_one(),
         }
     }
 
     pub fn station(&self) -> &Station {
         &self.station
+    }
+
+    pub fn line(&self) -> &BenchLine {
+        &self.line
     }
 
     /// Adds the answer to one line, and its LF; gives the command, and none for a bad line.
@@ -113,10 +120,6 @@ impl Session {
                 self.station = Station::new();
                 push_ok(out);
             }
-            Command::Policy { policy } => {
-                self.station.set_policy(*policy);
-                push_ok(out);
-            }
             Command::Tick { high } => {
                 out.push(b'd');
                 push_number_field(out, i32::from(self.station.tick(*high)));
@@ -126,27 +129,31 @@ impl Session {
                 out.push(b'd');
                 push_byte_string_field(out, driven.bytes());
             }
-            Command::Start { start, half_bits } => {
-                push_start(out, self.station.start(*start, half_bits));
-            }
-            Command::Poll => out.extend_from_slice(poll_word(self.station.poll())),
-            Command::TakeIdle => push_number(out, i32::from(self.station.take_idle())),
-            Command::TakeRx => match self.station.take_rx() {
-                None => out.extend_from_slice(b"none"),
-                Some(event) => {
-                    out.extend_from_slice(b"event");
-                    push_event(out, &event);
-                }
-            },
-            Command::Ack => {
-                self.station.acknowledge();
-                push_ok(out);
-            }
-            Command::State => push_state(out, &self.station),
+            Command::Call(call) => push_called(out, &mut self.station, call),
             Command::Settle { ticks, lead } => {
                 push_number(out, i32::from(settle_ticks_on_wire(*ticks, *lead)));
             }
             Command::Gate { ticks } => push_number(out, i32::from(restart_gate_for(*ticks))),
+            Command::Line { stations } => match BenchLine::of(*stations) {
+                Ok(line) => {
+                    self.line = line;
+                    push_ok(out);
+                }
+                Err(refusal) => push_refused(out, refusal as i32),
+            },
+            Command::LineTicks { ticks } => {
+                let left = self.line.ticks(*ticks);
+                out.push(b'l');
+                push_byte_string_field(out, left.bytes());
+            }
+            Command::LineLevel => {
+                out.push(b'l');
+                push_number_field(out, i32::from(self.line.is_high()));
+            }
+            Command::LineCall { station, call } => match self.line.station_mut(*station) {
+                Ok(station) => push_called(out, station, call),
+                Err(refusal) => push_refused(out, refusal as i32),
+            },
         }
     }
 }
@@ -299,10 +306,31 @@ fn push_encoded_into(out: &mut Vec<u8>, frame: &Frame, mut buffer: Vec<u8>) {
     push_byte_string_field(out, &buffer);
 }
 
-fn push_start(out: &mut Vec<u8>, refusal: Option<Refusal>) {
-    match refusal {
-        None => push_ok(out),
-        Some(number) => push_refused(out, number as i32),
+/// The answer to a call, alike for the one station and for those of the line.
+fn push_called(out: &mut Vec<u8>, station: &mut Station, call: &Call) {
+    match call {
+        Call::Policy { policy } => {
+            station.set_policy(*policy);
+            push_ok(out);
+        }
+        Call::Start { start, half_bits } => match station.start(*start, half_bits) {
+            None => push_ok(out),
+            Some(refusal) => push_refused(out, refusal as i32),
+        },
+        Call::Poll => out.extend_from_slice(poll_word(station.poll())),
+        Call::TakeIdle => push_number(out, i32::from(station.take_idle())),
+        Call::TakeRx => match station.take_rx() {
+            None => out.extend_from_slice(b"none"),
+            Some(event) => {
+                out.extend_from_slice(b"event");
+                push_event(out, &event);
+            }
+        },
+        Call::Ack => {
+            station.acknowledge();
+            push_ok(out);
+        }
+        Call::State => push_state(out, station),
     }
 }
 

@@ -4,7 +4,7 @@ use crate::encoder::{Frame, FRAME_BYTES};
 use crate::fsm::CollisionPolicy;
 use crate::levels::Levels;
 use crate::manchester::{PhaseDecode, DECODED_BYTES};
-use crate::station::{HalfBits, Start};
+use crate::station::{Call, HalfBits, Start};
 
 pub const LONGEST_LINE: usize = 2047;
 pub const SAMPLES: usize = 64;
@@ -35,7 +35,6 @@ impl Rank {
     }
 }
 
-// The commands of the bench line join here when they are ported.
 #[derive(Clone, PartialEq, Eq)]
 pub enum Command {
     Weight {
@@ -96,24 +95,13 @@ pub enum Command {
         buffer: Vec<u8>,
     },
     New,
-    Policy {
-        policy: CollisionPolicy,
-    },
     Tick {
         high: bool,
     },
     Ticks {
         levels: Levels,
     },
-    Start {
-        start: Start,
-        half_bits: HalfBits,
-    },
-    Poll,
-    TakeIdle,
-    TakeRx,
-    Ack,
-    State,
+    Call(Call),
     Settle {
         ticks: u16,
         lead: u8,
@@ -121,9 +109,20 @@ pub enum Command {
     Gate {
         ticks: u8,
     },
+    Line {
+        stations: u8,
+    },
+    LineTicks {
+        ticks: usize,
+    },
+    LineLevel,
+    LineCall {
+        station: u8,
+        call: Call,
+    },
 }
 
-pub const NAMES: [&str; 29] = [
+pub const NAMES: [&str; 40] = [
     "weight",
     "phase",
     "search",
@@ -153,14 +152,30 @@ pub const NAMES: [&str; 29] = [
     "state",
     "settle",
     "gate",
+    "line",
+    "lticks",
+    "llevel",
+    "lpolicy",
+    "lstart_tx",
+    "lstart_answer",
+    "lpoll",
+    "ltake_idle",
+    "ltake_rx",
+    "lack",
+    "lstate",
 ];
 
 /// The names of the reading commands are those from this one to before the encoder's.
 const FIRST_READING: usize = 9;
 /// The names of the encoder's commands are those from this one to before the station's.
 const FIRST_OF_ENCODER: usize = 14;
-/// The names of the station's commands are those from this one on.
+/// The names of the station's commands are those from this one to before the line's.
 const FIRST_OF_STATION: usize = 16;
+/// The names of the line's commands are those from this one on.
+const FIRST_OF_LINE: usize = 29;
+/// The places of the calls' names, in the order of `place_among_calls`.
+const STATION_CALLS: [usize; 8] = [17, 20, 21, 22, 23, 24, 25, 26];
+const LINE_CALLS: [usize; 8] = [32, 33, 34, 35, 36, 37, 38, 39];
 
 pub fn is_reading(number: usize) -> bool {
     (FIRST_READING..FIRST_OF_ENCODER).contains(&number)
@@ -171,7 +186,26 @@ pub fn is_of_encoder(number: usize) -> bool {
 }
 
 pub fn is_of_station(number: usize) -> bool {
-    number >= FIRST_OF_STATION
+    (FIRST_OF_STATION..FIRST_OF_LINE).contains(&number)
+}
+
+pub fn is_of_line(number: usize) -> bool {
+    number >= FIRST_OF_LINE
+}
+
+fn place_among_calls(call: &Call) -> usize {
+    match call {
+        Call::Policy { .. } => 0,
+        Call::Start { start, .. } => match start {
+            Start::Tx => 1,
+            Start::Answer => 2,
+        },
+        Call::Poll => 3,
+        Call::TakeIdle => 4,
+        Call::TakeRx => 5,
+        Call::Ack => 6,
+        Call::State => 7,
+    }
 }
 
 impl Command {
@@ -195,20 +229,15 @@ impl Command {
             Command::Encode { .. } => 14,
             Command::EncodeBuf { .. } => 15,
             Command::New => 16,
-            Command::Policy { .. } => 17,
             Command::Tick { .. } => 18,
             Command::Ticks { .. } => 19,
-            Command::Start { start, .. } => match start {
-                Start::Tx => 20,
-                Start::Answer => 21,
-            },
-            Command::Poll => 22,
-            Command::TakeIdle => 23,
-            Command::TakeRx => 24,
-            Command::Ack => 25,
-            Command::State => 26,
+            Command::Call(call) => STATION_CALLS[place_among_calls(call)],
             Command::Settle { .. } => 27,
             Command::Gate { .. } => 28,
+            Command::Line { .. } => 29,
+            Command::LineTicks { .. } => 30,
+            Command::LineLevel => 31,
+            Command::LineCall { call, .. } => LINE_CALLS[place_among_calls(call)],
         }
     }
 
@@ -216,11 +245,12 @@ impl Command {
         NAMES[self.number()]
     }
 
-    /// The ticks that the command makes.
+    /// The ticks that the command makes, of the station or of the line.
     pub fn ticks(&self) -> usize {
         match self {
             Command::Tick { .. } => 1,
             Command::Ticks { levels } => levels.ticks(),
+            Command::LineTicks { ticks } => *ticks,
             _ => 0,
         }
     }
@@ -290,28 +320,12 @@ impl Command {
                 buffer: fields.byte_string()?,
             },
             b"new" => Command::New,
-            b"policy" => Command::Policy {
-                policy: fields.policy()?,
-            },
             b"tick" => Command::Tick {
                 high: fields.level()?,
             },
             b"ticks" => Command::Ticks {
                 levels: fields.levels()?,
             },
-            b"start_tx" => Command::Start {
-                start: Start::Tx,
-                half_bits: fields.half_bits()?,
-            },
-            b"start_answer" => Command::Start {
-                start: Start::Answer,
-                half_bits: fields.half_bits()?,
-            },
-            b"poll" => Command::Poll,
-            b"take_idle" => Command::TakeIdle,
-            b"take_rx" => Command::TakeRx,
-            b"ack" => Command::Ack,
-            b"state" => Command::State,
             b"settle" => Command::Settle {
                 ticks: fields.u16()?,
                 lead: fields.u8()?,
@@ -319,7 +333,18 @@ impl Command {
             b"gate" => Command::Gate {
                 ticks: fields.u8()?,
             },
-            _ => return None,
+            b"line" => Command::Line {
+                stations: fields.u8()?,
+            },
+            b"lticks" => Command::LineTicks {
+                ticks: fields.tick_count()?,
+            },
+            b"llevel" => Command::LineLevel,
+            [b'l', word @ ..] => Command::LineCall {
+                station: fields.u8()?,
+                call: fields.call(word)?,
+            },
+            word => Command::Call(fields.call(word)?),
         };
         match fields.rest {
             None => Some(command),
@@ -381,30 +406,24 @@ impl Command {
                 push_unencoded(out, frame);
                 push_byte_string_field(out, buffer);
             }
-            Command::Policy { policy } => {
-                out.push(b' ');
-                out.extend_from_slice(policy_word(*policy));
-            }
             Command::Tick { high } => push_number_field(out, i32::from(*high)),
             Command::Ticks { levels } => {
                 push_byte_string_field(out, levels.bytes());
                 push_number_field(out, levels.ticks() as i32);
             }
-            Command::Start { half_bits, .. } => {
-                push_number_field(out, i32::from(half_bits.len));
-                push_hex_field(out, &half_bits.data);
-            }
+            Command::Call(call) => push_operands(out, call),
             Command::Settle { ticks, lead } => {
                 push_number_field(out, i32::from(*ticks));
                 push_number_field(out, i32::from(*lead));
             }
             Command::Gate { ticks } => push_number_field(out, i32::from(*ticks)),
-            Command::New
-            | Command::Poll
-            | Command::TakeIdle
-            | Command::TakeRx
-            | Command::Ack
-            | Command::State => {}
+            Command::Line { stations } => push_number_field(out, i32::from(*stations)),
+            Command::LineTicks { ticks } => push_number_field(out, *ticks as i32),
+            Command::LineCall { station, call } => {
+                push_number_field(out, i32::from(*station));
+                push_operands(out, call);
+            }
+            Command::New | Command::LineLevel => {}
         }
     }
 
@@ -541,10 +560,36 @@ impl<'a> Fields<'a> {
         }
     }
 
+    fn tick_count(&mut self) -> Option<usize> {
+        decimal(self.next()?, MOST_TICKS as u32).map(|value| value as usize)
+    }
+
     fn levels(&mut self) -> Option<Levels> {
         let bytes = self.byte_string()?;
-        let ticks = decimal(self.next()?, MOST_TICKS as u32)?;
-        Levels::of_bytes(bytes, ticks as usize)
+        Levels::of_bytes(bytes, self.tick_count()?)
+    }
+
+    /// The operands of the call that has this name.
+    fn call(&mut self, name: &[u8]) -> Option<Call> {
+        Some(match name {
+            b"policy" => Call::Policy {
+                policy: self.policy()?,
+            },
+            b"start_tx" => Call::Start {
+                start: Start::Tx,
+                half_bits: self.half_bits()?,
+            },
+            b"start_answer" => Call::Start {
+                start: Start::Answer,
+                half_bits: self.half_bits()?,
+            },
+            b"poll" => Call::Poll,
+            b"take_idle" => Call::TakeIdle,
+            b"take_rx" => Call::TakeRx,
+            b"ack" => Call::Ack,
+            b"state" => Call::State,
+            _ => return None,
+        })
     }
 
     fn half_bits(&mut self) -> Option<HalfBits> {
@@ -640,6 +685,20 @@ pub fn push_number_field(out: &mut Vec<u8>, value: i32) {
 fn push_capture(out: &mut Vec<u8>, capture: &Capture) {
     push_number_field(out, i32::from(capture.count));
     push_hex_field(out, &capture.samples);
+}
+
+fn push_operands(out: &mut Vec<u8>, call: &Call) {
+    match call {
+        Call::Policy { policy } => {
+            out.push(b' ');
+            out.extend_from_slice(policy_word(*policy));
+        }
+        Call::Start { half_bits, .. } => {
+            push_number_field(out, i32::from(half_bits.len));
+            push_hex_field(out, &half_bits.data);
+        }
+        Call::Poll | Call::TakeIdle | Call::TakeRx | Call::Ack | Call::State => {}
+    }
 }
 
 fn push_unencoded(out: &mut Vec<u8>, frame: &Frame) {

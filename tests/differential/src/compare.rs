@@ -5,7 +5,7 @@ use std::process::Stdio;
 use std::sync::Arc;
 
 use crate::answer::{answers, Session};
-use crate::command::{is_of_encoder, is_of_station, is_reading, Command, NAMES};
+use crate::command::{is_of_encoder, is_of_line, is_of_station, is_reading, Command, NAMES};
 use crate::generate::{Generator, Kind};
 use crate::program::{first_difference, printable, Difference, Run};
 use crate::shrink;
@@ -21,7 +21,7 @@ pub struct Task {
 /// True if there is no difference. What was compared, or the difference, is printed.
 pub fn compare(task: &Task) -> io::Result<bool> {
     let mut generator = Generator::new(task.seed, task.kind);
-    let mut tally = Tally::default();
+    let mut tally = Tally::new();
     let mut left = task.commands;
     let mut next = next_batch(&mut generator, &mut left, task.batch);
     while let Some(batch) = next {
@@ -60,11 +60,12 @@ fn next_batch(generator: &mut Generator, left: &mut usize, size: usize) -> Optio
     let mut script = Vec::with_capacity(160 * lines);
     let mut answers = Vec::with_capacity(40 * lines);
     let mut session = Session::new();
-    let mut tally = Tally::default();
+    let mut tally = Tally::new();
     for _ in 0..lines {
         let from = script.len();
         generator.push_line(&mut script);
-        tally.count(session.answer(&script[from..], &mut answers).as_ref());
+        let command = session.answer(&script[from..], &mut answers);
+        tally.count(command.as_ref(), session.line().stations().len());
         script.push(b'\n');
     }
     Some(Batch {
@@ -167,16 +168,34 @@ fn shell_word(word: &str) -> String {
 }
 
 /// Lines compared so far, by the command that they say, with bad lines last; and the ticks that they make.
-#[derive(Default)]
 struct Tally {
     counts: [usize; NAMES.len() + 1],
     ticks: usize,
+    line_ticks: usize,
+    /// One for each of the line's stations on each of its ticks.
+    line_station_ticks: usize,
 }
 
 impl Tally {
-    fn count(&mut self, command: Option<&Command>) {
+    fn new() -> Self {
+        Self {
+            counts: [0; NAMES.len() + 1],
+            ticks: 0,
+            line_ticks: 0,
+            line_station_ticks: 0,
+        }
+    }
+
+    fn count(&mut self, command: Option<&Command>, stations_on_line: usize) {
         self.counts[command.map_or(NAMES.len(), Command::number)] += 1;
-        self.ticks += command.map_or(0, Command::ticks);
+        match command {
+            Some(Command::LineTicks { ticks }) => {
+                self.line_ticks += ticks;
+                self.line_station_ticks += stations_on_line * ticks;
+            }
+            Some(command) => self.ticks += command.ticks(),
+            None => {}
+        }
     }
 
     fn add(&mut self, other: &Tally) {
@@ -184,6 +203,8 @@ impl Tally {
             *count += more;
         }
         self.ticks += other.ticks;
+        self.line_ticks += other.line_ticks;
+        self.line_station_ticks += other.line_station_ticks;
     }
 
     fn lines(&self) -> usize {
@@ -217,13 +238,17 @@ impl Tally {
             }
         }
         text.push_str(&format!(
-            "bad {}), {} decode_phase answers, {} reading commands, {} encoder commands, {} station commands and {} ticks among them",
+            "bad {}), {} decode_phase answers, {} reading commands, {} encoder commands, {} station commands and {} ticks, \
+             {} line commands and {} line ticks ({} by its stations) among them",
             self.bad_lines(),
             self.named("phase"),
             self.of(is_reading),
             self.of(is_of_encoder),
             self.of(is_of_station),
-            self.ticks
+            self.ticks,
+            self.of(is_of_line),
+            self.line_ticks,
+            self.line_station_ticks
         ));
         text
     }

@@ -1,18 +1,20 @@
-//! How often a script brings a station, or the encoder, into each situation that its answers hang on.
+//! How often a script brings a station, a line or the encoder into each situation that its answers hang on.
 
 use std::cmp::Ordering;
 use std::collections::BTreeMap;
 
 use crate::answer::{bus_word, Session};
-use crate::command::{is_of_encoder, is_of_station, Command};
+use crate::command::{is_of_encoder, is_of_line, is_of_station, Command};
 use crate::fsm::BusState;
 use crate::generate::Generator;
-use crate::station::{Station, HALF_BIT_BYTES};
+use crate::line_coverage::LineCoverage;
+use crate::station::{Call, Station, HALF_BIT_BYTES};
 
 /// One situation a line, with how often it came.
 pub fn table(generator: &mut Generator, lines: usize) -> String {
     let mut coverage = Coverage {
         session: Session::new(),
+        line: LineCoverage::new(),
         counts: BTreeMap::new(),
     };
     let mut line = Vec::new();
@@ -28,6 +30,7 @@ pub fn table(generator: &mut Generator, lines: usize) -> String {
 
 struct Coverage {
     session: Session,
+    line: LineCoverage,
     counts: BTreeMap<String, usize>,
 }
 
@@ -45,6 +48,10 @@ impl Coverage {
             }
             Some(command) if is_of_station(command.number()) => self.count_call(&command),
             Some(command) if is_of_encoder(command.number()) => self.count_encoding(&command),
+            Some(command) if is_of_line(command.number()) => {
+                let situations = self.line.situations(&command);
+                situations.into_iter().for_each(|each| self.count(each));
+            }
             Some(_) => {}
         }
     }
@@ -65,7 +72,9 @@ impl Coverage {
         let mut answer = Vec::new();
         self.session.answer_command(command, &mut answer);
         let told = match command {
-            Command::Settle { .. } | Command::Gate { .. } | Command::State => String::new(),
+            Command::Settle { .. } | Command::Gate { .. } | Command::Call(Call::State) => {
+                String::new()
+            }
             _ => brief(&String::from_utf8_lossy(&answer)),
         };
         self.count(format!("{} in {moment}: {told}", command.name()));
@@ -77,21 +86,12 @@ impl Coverage {
         self.session
             .answer_command(&Command::Tick { high }, &mut answer);
         let station = self.session.station();
-        let now = station.bus_state();
-        let level = if high { "high" } else { "low" };
-        let way = match (before, now) {
-            // A yield's tick counts as a first low one; a tick that ends a send doesn't.
-            (BusState::Tx, BusState::Idle) if station.is_debouncing() => "yields",
-            (BusState::Tx, BusState::Idle) => "ends",
-            _ => "goes",
-        };
         let counts_are_full = [
             (station.idle_ticks() == u16::MAX, "idle count is full"),
             (station.low_run_ticks() == u16::MAX, "low run is full"),
         ];
-        if before != now {
-            let from = word(before);
-            self.count(format!("a {level} tick {way} from {from} to {}", word(now)));
+        if let Some(change) = change(before, station, high) {
+            self.count(change);
         }
         for (full, situation) in counts_are_full {
             if full {
@@ -99,6 +99,20 @@ impl Coverage {
             }
         }
     }
+}
+
+/// How the tick that sampled this level changed the station's state, if it did.
+pub fn change(before: BusState, station: &Station, high: bool) -> Option<String> {
+    let now = station.bus_state();
+    let level = if high { "high" } else { "low" };
+    let way = match (before, now) {
+        // A yield's tick counts as a first low one; a tick that ends a send doesn't.
+        (BusState::Tx, BusState::Idle) if station.is_debouncing() => "yields",
+        (BusState::Tx, BusState::Idle) => "ends",
+        _ => "goes",
+    };
+    let from = word(before);
+    (before != now).then(|| format!("a {level} tick {way} from {from} to {}", word(now)))
 }
 
 fn size_word(bytes: usize) -> &'static str {
@@ -123,7 +137,7 @@ fn word(state: BusState) -> String {
     String::from_utf8_lossy(bus_word(state)).to_string()
 }
 
-fn moment(station: &Station) -> String {
+pub fn moment(station: &Station) -> String {
     let debouncing = if station.is_debouncing() && station.bus_state() != BusState::Rx {
         ", debouncing"
     } else {
@@ -133,7 +147,7 @@ fn moment(station: &Station) -> String {
 }
 
 /// The answer without what is too varied to be counted: of an event, the count's kind alone.
-fn brief(answer: &str) -> String {
+pub fn brief(answer: &str) -> String {
     let fields: Vec<&str> = answer.split(' ').collect();
     match fields[..] {
         ["event", "3", ..] => "event of the least count".to_string(),

@@ -9,9 +9,9 @@ use crate::command::{
 };
 use crate::encoder::{half_bits_of, wave, Frame, HALF_BIT_TICKS};
 use crate::levels::{Levels, HIGH, LOW};
-use crate::station::Start;
+use crate::station::{Call, Start};
 
-const ARMED_TICKS: usize = 3;
+pub const ARMED_TICKS: usize = 3;
 /// The last of the four released half-bits lasts one tick, and on the tick after it the station is Idle.
 const TICKS_PAST_WAVE: usize = 3 * HALF_BIT_TICKS + 1 + 1;
 const KINDS: [&[u8]; 3] = [b"B8", b"F16", b"F24"];
@@ -94,9 +94,9 @@ impl FrameLines {
         let left = once(HIGH).chain(driven.iter());
         let heard = left.take(driven.ticks()).collect();
         let half_bits = half_bits_of(data);
-        self.push(Command::Start { start, half_bits }, b"ok");
+        self.push(Command::Call(Call::Start { start, half_bits }), b"ok");
         self.push_ticks(heard, &driven);
-        self.push(Command::Poll, b"ok");
+        self.push(Command::Call(Call::Poll), b"ok");
     }
 
     fn hear(&mut self, data: &[u8], heard: Levels) {
@@ -109,7 +109,7 @@ impl FrameLines {
         push_number_field(&mut event, i32::from(capture.count));
         push_number_field(&mut event, pre_idle_ticks as i32);
         push_hex_field(&mut event, &capture.samples);
-        self.push(Command::TakeRx, &event);
+        self.push(Command::Call(Call::TakeRx), &event);
         self.read(data, capture);
     }
 
@@ -127,19 +127,24 @@ impl FrameLines {
     }
 
     fn read(&mut self, data: &[u8], capture: Capture) {
-        let phase = 0;
-        let mut reading = KINDS[data.len() - 1].to_vec();
-        push_hex_field(&mut reading, data);
-        push_number_field(&mut reading, phase);
-        push_number_field(&mut reading, i32::from(score(data)));
         let of_answer = capture.clone();
-        self.push(Command::Sniff { capture }, &reading);
+        self.push(Command::Sniff { capture }, &reading(data));
         if let [byte] = data {
             let mut answer = b"byte".to_vec();
             push_hex_field(&mut answer, &[*byte]);
             self.push(Command::Backward { capture: of_answer }, &answer);
         }
     }
+}
+
+/// How the capture of the frame's wave is read.
+pub fn reading(data: &[u8]) -> Vec<u8> {
+    let phase = 0;
+    let mut reading = KINDS[data.len() - 1].to_vec();
+    push_hex_field(&mut reading, data);
+    push_number_field(&mut reading, phase);
+    push_number_field(&mut reading, i32::from(score(data)));
+    reading
 }
 
 fn score(data: &[u8]) -> u16 {

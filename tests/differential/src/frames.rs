@@ -10,7 +10,9 @@ use crate::answer::answers;
 use crate::command::push_hex;
 use crate::compare::look_for_smallest;
 use crate::frame_lines::FrameLines;
-use crate::program::{first_difference, first_other_line, printable, Difference, Run};
+use crate::program::{
+    first_difference, first_other_line, print_difference, printable, Difference, Run,
+};
 use crate::random::Random;
 
 const FRAMES_OF_24_BITS: usize = 100_000;
@@ -120,10 +122,6 @@ impl<'a> Batch<'a> {
             8 * self.frames[frame].len(),
             printable(&data)
         );
-        for line in &lines[self.first_lines[frame]..] {
-            println!("  command: {}", printable(line));
-        }
-        println!("  {}: {}", names[0], printable(&difference.expected));
-        println!("  {}: {}", names[1], printable(&difference.told));
+        print_difference(&lines[self.first_lines[frame]..], difference, names);
     }
 }

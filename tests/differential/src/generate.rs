@@ -4,10 +4,11 @@ use std::collections::VecDeque;
 
 use crate::captures::{answer_capture, any_capture, low_run_capture};
 use crate::command::{
-    is_of_encoder, is_reading, push_byte_string_field, push_number_field, Command, Rank,
-    LONGEST_LINE, MOST_TICKS, NAMES,
+    is_of_encoder, is_of_line, is_reading, push_byte_string_field, push_number_field, Command,
+    Rank, LONGEST_LINE, MOST_TICKS, NAMES,
 };
 use crate::encoder::{Frame, FRAME_BYTES};
+use crate::line_lines::LineLines;
 use crate::manchester::PhaseDecode;
 use crate::random::Random;
 use crate::station_lines::{any_gate, any_settle, Pace, StationLines};
@@ -25,6 +26,7 @@ pub enum Kind {
     Station,
     /// The station's commands, with most of the ticks in long lines.
     StationLong,
+    Line,
     Weight,
     Phase,
     Search,
@@ -45,7 +47,7 @@ pub enum Kind {
 
 impl Kind {
     /// The three commands of the kept search make sense together alone, so each names them all; so do
-    /// the commands that a station's state is changed or shown by.
+    /// the commands that a station's state is changed or shown by, and those of the line.
     pub fn named(name: &str) -> Option<Self> {
         Some(match name {
             "decoders" => Kind::Decoders,
@@ -54,6 +56,8 @@ impl Kind {
             "station" | "new" | "policy" | "tick" | "ticks" | "start_tx" | "start_answer"
             | "poll" | "take_idle" | "take_rx" | "ack" | "state" => Kind::Station,
             "station-long" => Kind::StationLong,
+            "line" | "lticks" | "llevel" | "lpolicy" | "lstart_tx" | "lstart_answer" | "lpoll"
+            | "ltake_idle" | "ltake_rx" | "lack" | "lstate" => Kind::Line,
             "weight" => Kind::Weight,
             "phase" => Kind::Phase,
             "search" => Kind::Search,
@@ -83,6 +87,7 @@ impl Kind {
                 | Kind::Encoder
                 | Kind::Station
                 | Kind::StationLong
+                | Kind::Line
         )
     }
 }
@@ -93,6 +98,7 @@ pub struct Generator {
     /// The rest of a sequence on the kept search.
     kept_search: VecDeque<Command>,
     station: StationLines,
+    line: LineLines,
     /// A good command, after a bad line that was made of it: so no sequence loses one of its commands.
     held_back: Option<Command>,
 }
@@ -107,6 +113,7 @@ impl Generator {
                 Kind::StationLong => Pace::Long,
                 _ => Pace::Usual,
             }),
+            line: LineLines::new(),
             held_back: None,
         }
     }
@@ -149,6 +156,7 @@ impl Generator {
                 }
             },
             Kind::Station | Kind::StationLong => self.station.next(random),
+            Kind::Line => self.line.next(random),
             Kind::Weight => Command::Weight {
                 sample: random.byte(),
             },
@@ -455,8 +463,7 @@ pub fn spoiled(line: &[u8], random: &mut Random) -> Vec<u8> {
 
 pub const SPOILED_WAYS: usize = 24;
 
-/// Some ways leave some lines good, as the one that takes the operands away does where there are none. No way makes a line that
-/// begins with a word of the protocol that isn't answered yet.
+/// Some ways leave some lines good, as the one that takes the operands away does where there are none.
 pub fn spoiled_in_way(line: &[u8], way: usize, random: &mut Random) -> Vec<u8> {
     let mut fields: Vec<Vec<u8>> = line
         .split(|byte| *byte == b' ')
@@ -499,20 +506,30 @@ pub fn spoiled_in_way(line: &[u8], way: usize, random: &mut Random) -> Vec<u8> {
         }
         20 => fields.truncate(1),
         21 => fields[one].make_ascii_uppercase(),
+        22 if is_of_line_word(&fields[0]) => return line_ticks_that_do_not_fit(random),
         22 => return ticks_that_do_not_fit(random),
         _ => return any_line(random),
     }
     fields.join(&b' ')
 }
 
-/// A word that no command has, or, in place of a reading command's or the encoder's, one that has other operands.
+/// A word that no command has, or, in place of a reading command's, the encoder's or the line's, one that has other operands.
 fn unfitting_word(word: &[u8], random: &mut Random) -> Vec<u8> {
-    let words = match NAMES.iter().position(|name| name.as_bytes() == word) {
+    let words = match number_of(word) {
         Some(number) if is_reading(number) => NEAR_READINGS,
         Some(number) if is_of_encoder(number) => NEAR_ENCODER,
+        Some(number) if is_of_line(number) => NEAR_LINE,
         _ => NO_COMMANDS,
     };
     random.pick(words).to_vec()
+}
+
+fn number_of(word: &[u8]) -> Option<usize> {
+    NAMES.iter().position(|name| name.as_bytes() == word)
+}
+
+fn is_of_line_word(word: &[u8]) -> bool {
+    number_of(word).is_some_and(is_of_line)
 }
 
 const NO_COMMANDS: &[&[u8]] = &[
@@ -569,6 +586,54 @@ const NEAR_ENCODER: &[&[u8]] = &[
     b"encode_buf",
     b"code",
 ];
+
+const NEAR_LINE: &[&[u8]] = &[
+    b"l",
+    b"lin",
+    b"lines",
+    b"lline",
+    b"ltick",
+    b"ltickss",
+    b"ticks",
+    b"level",
+    b"llevels",
+    b"lpolic",
+    b"policy",
+    b"lstart",
+    b"lstart_",
+    b"lstart_txx",
+    b"start_tx",
+    b"lstart_answe",
+    b"lpol",
+    b"lpolls",
+    b"poll",
+    b"ltake",
+    b"ltake_id",
+    b"ltake_r",
+    b"take_rx",
+    b"lac",
+    b"lstat",
+    b"lstates",
+    b"state",
+    b"lnew",
+    b"lsettle",
+    b"lgate",
+    b"llpoll",
+    b"lengths",
+    b"lowrun",
+];
+
+/// More ticks of the line than one command may make.
+fn line_ticks_that_do_not_fit(random: &mut Random) -> Vec<u8> {
+    let ticks = match random.below(3) {
+        0 => MOST_TICKS + 1,
+        1 => MOST_TICKS + random.between(1, 600) as usize,
+        _ => random.pick(&[8192, 65535, 65536, 65537, 69632, 1 << 20]),
+    };
+    let mut line = b"lticks".to_vec();
+    push_number_field(&mut line, ticks as i32);
+    line
+}
 
 /// More ticks than a line may have, or other than the bytes are for.
 fn ticks_that_do_not_fit(random: &mut Random) -> Vec<u8> {

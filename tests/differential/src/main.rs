@@ -6,20 +6,29 @@ mod captures;
 mod command;
 mod compare;
 mod coverage;
+mod demand;
+mod demand_lines;
 mod encoder;
 mod frame_lines;
 mod frames;
 mod generate;
 mod levels;
+mod line;
+mod line_coverage;
+mod line_lines;
+mod lines;
 mod original;
 mod others;
+mod pairs;
 mod program;
 mod random;
 mod shrink;
+mod stated;
 mod station;
 mod station_lines;
 mod stored;
 mod stored_encoder;
+mod stored_line;
 mod stored_readings;
 mod stored_station;
 
@@ -36,15 +45,19 @@ const USAGE: &str = "usage:
   differential answer                                 answers the protocol on standard input
   differential generate --seed S --commands N [--only KIND]
   differential coverage --seed S --commands N [--only KIND]
-                                                      counts where a script brings a station and the encoder
+                                                      counts where a script brings a station, a line and the encoder
   differential compare --calls PROGRAM --seed S --commands N [--only KIND] [--batch B]
   differential frames --calls PROGRAM [--seed S] [--batch B]
                                                       whole frames, B of them to a run of the program
+  differential lines --calls PROGRAM [--seed S] [--lone N] [--pairs N] [--batch B]
+                                                      demand 3, so many runs with one sender and with two
   differential store --to FOLDER                      writes FOLDER/stdin and FOLDER/stdout
-KIND is decoders, readings, encoder, station, station-long or a command's name.";
+KIND is decoders, readings, encoder, station, station-long, line or a command's name.";
 
 const USUAL_BATCH: usize = 50_000;
 const USUAL_FRAMES_BATCH: usize = 5_000;
+const USUAL_LINES_RUNS: u64 = 20_000;
+const USUAL_LINES_BATCH: usize = 2_000;
 const USUAL_SEED: u64 = 62386;
 const DIFFERENT: u8 = 1;
 const MISUSED_OR_BROKEN: u8 = 2;
@@ -89,6 +102,11 @@ fn run(words: &[String]) -> Result<bool, String> {
             options.allow(&["--calls", "--seed", "--batch"])?;
             let task = options.frames_task()?;
             frames::run(&task).map_err(|error| format!("{}: {error}", task.program))
+        }
+        "lines" => {
+            options.allow(&["--calls", "--seed", "--lone", "--pairs", "--batch"])?;
+            let task = options.lines_task()?;
+            lines::run(&task).map_err(|error| format!("{}: {error}", task.program))
         }
         "store" => {
             options.allow(&["--to"])?;
@@ -219,12 +237,26 @@ impl<'a> Options<'a> {
     fn frames_task(&self) -> Result<frames::Task, String> {
         Ok(frames::Task {
             program: self.text("--calls")?.to_string(),
-            seed: match self.find("--seed") {
-                None => USUAL_SEED,
-                Some(text) => Self::number("--seed", text)?,
-            },
+            seed: self.number_or("--seed", USUAL_SEED)?,
             batch: self.batch(USUAL_FRAMES_BATCH)?,
         })
+    }
+
+    fn lines_task(&self) -> Result<lines::Task, String> {
+        Ok(lines::Task {
+            program: self.text("--calls")?.to_string(),
+            seed: self.number_or("--seed", USUAL_SEED)?,
+            lone: self.number_or("--lone", USUAL_LINES_RUNS)? as usize,
+            pairs: self.number_or("--pairs", USUAL_LINES_RUNS)? as usize,
+            batch: self.batch(USUAL_LINES_BATCH)?,
+        })
+    }
+
+    fn number_or(&self, name: &str, usual: u64) -> Result<u64, String> {
+        match self.find(name) {
+            None => Ok(usual),
+            Some(text) => Self::number(name, text),
+        }
     }
 
     fn batch(&self, usual: usize) -> Result<usize, String> {

@@ -123,6 +123,15 @@ fn ended(said: &Said) -> String {
     format!("(no more lines; the program ended with {})", said.status)
 }
 
+/// The commands up to the difference, and the two answers to the last of them, under these names.
+pub fn print_difference(commands: &[&[u8]], difference: &Difference, names: [&str; 2]) {
+    for command in commands {
+        println!("  command: {}", printable(command));
+    }
+    println!("  {}: {}", names[0], printable(&difference.expected));
+    println!("  {}: {}", names[1], printable(&difference.told));
+}
+
 pub fn printable(text: &[u8]) -> String {
     text.escape_ascii().to_string()
 }

@@ -2,8 +2,10 @@
 
 use std::ops::Range;
 
-use crate::command::{is_of_station, Capture, Command, MOST_TICKS, SAMPLES};
+use crate::command::{is_of_line, is_of_station, Capture, Command, MOST_TICKS, SAMPLES};
 use crate::levels::{Levels, HIGH, LOW};
+use crate::line::MOST_STATIONS;
+use crate::station::Call;
 
 type Script = Vec<Vec<u8>>;
 
@@ -27,22 +29,43 @@ pub fn smallest(script: Script, differs: &mut dyn FnMut(&[Vec<u8>]) -> bool) -> 
     Some(shrinker.script)
 }
 
-/// The last line alone, or with the lines that the kept search or the station comes from, or all of them.
+/// The last line alone, or with the lines that the kept search, the station or the line comes from, or all of them.
 fn starting_script(script: Script, differs: &mut dyn FnMut(&[Vec<u8>]) -> bool) -> Option<Script> {
     let last = script.last()?.clone();
     let kept_search = kept_search_lines(&script);
     let new = script.iter().rposition(|line| line == b"new");
-    let since_new = station_lines(&script[new.unwrap_or(0)..]);
-    let station = station_lines(&script);
-    [vec![last], kept_search, since_new, station, script]
+    let since_new = lines_of(is_of_station, &script[new.unwrap_or(0)..]);
+    let station = lines_of(is_of_station, &script);
+    let new_line = script.iter().rposition(|line| makes_a_line(line));
+    let since_new_line = lines_of(is_of_line, &script[new_line.unwrap_or(0)..]);
+    let line = lines_of(is_of_line, &script);
+    let fewer = [
+        vec![last],
+        kept_search,
+        since_new,
+        station,
+        since_new_line,
+        line,
+    ];
+    fewer
         .into_iter()
+        .chain([script])
         .find(|script| differs(script))
 }
 
-/// The station's commands and the last line.
-fn station_lines(script: &[Vec<u8>]) -> Script {
-    let is_kept =
-        |line: &[u8]| Command::read(line).is_some_and(|command| is_of_station(command.number()));
+fn makes_a_line(line: &[u8]) -> bool {
+    let command = Command::read(line);
+    matches!(
+        command,
+        Some(Command::Line {
+            stations: 1..=MOST_STATIONS
+        })
+    )
+}
+
+/// The commands of one kind and the last line.
+fn lines_of(kind: fn(usize) -> bool, script: &[Vec<u8>]) -> Script {
+    let is_kept = |line: &[u8]| Command::read(line).is_some_and(|command| kind(command.number()));
     let lines = script.iter().enumerate();
     lines
         .filter(|(number, line)| number + 1 == script.len() || is_kept(line))
@@ -103,6 +126,7 @@ impl Shrinker<'_> {
             for at in 0..self.script.len() {
                 match Command::read(&self.script[at]) {
                     Some(Command::Ticks { .. }) => self.simplify_ticks(at),
+                    Some(Command::LineTicks { .. }) => self.fewer_line_ticks(at),
                     Some(_) => self.simplify_command(at),
                     None => self.shorten_bad_line(at),
                 }
@@ -154,19 +178,29 @@ impl Shrinker<'_> {
     fn join_ticks(&mut self) {
         let mut at = 0;
         while at + 1 < self.script.len() {
-            let [first, second] = [at, at + 1].map(|at| levels_of(&self.script[at]));
-            let joined = match (first, second) {
-                (Some(first), Some(second)) if first.ticks() + second.ticks() <= MOST_TICKS => {
-                    let levels = first.iter().chain(second.iter()).collect();
-                    let mut script = self.script.clone();
-                    script.remove(at + 1);
-                    script[at] = Command::Ticks { levels }.line();
-                    self.take(script)
-                }
-                _ => false,
-            };
-            if !joined {
+            let joined = joined_ticks(&self.script[at], &self.script[at + 1]);
+            let taken = joined.is_some_and(|joined| {
+                let mut script = self.script.clone();
+                script.remove(at + 1);
+                script[at] = joined.line();
+                self.take(script)
+            });
+            if !taken {
                 at += 1;
+            }
+        }
+    }
+
+    fn fewer_line_ticks(&mut self, at: usize) {
+        let mut fewer = MOST_TICKS;
+        while fewer > 0 {
+            let taken = self.take_change(at, |command| {
+                if let Command::LineTicks { ticks } = command {
+                    *ticks = ticks.saturating_sub(fewer);
+                }
+            });
+            if !taken {
+                fewer /= 2;
             }
         }
     }
@@ -372,7 +406,11 @@ fn byte_string_of(command: &mut Command) -> Option<&mut Vec<u8>> {
 
 fn bytes_of(command: &mut Command) -> &mut [u8] {
     match command {
-        Command::Start { half_bits, .. } => &mut half_bits.data,
+        Command::Call(Call::Start { half_bits, .. })
+        | Command::LineCall {
+            call: Call::Start { half_bits, .. },
+            ..
+        } => &mut half_bits.data,
         Command::EncodeBuf { buffer, .. } => buffer,
         Command::SniffDec {
             found: Some(decode),
@@ -411,6 +449,22 @@ fn changes_and_lows(levels: &Levels) -> (usize, usize) {
         changes.filter(|(before, after)| before != after).count(),
         levels.iter().filter(|high| *high == LOW).count(),
     )
+}
+
+/// None where they don't both make ticks of the station or both of the line, or too many of them.
+fn joined_ticks(first: &[u8], second: &[u8]) -> Option<Command> {
+    let joined = match (Command::read(first)?, Command::read(second)?) {
+        (Command::LineTicks { ticks }, Command::LineTicks { ticks: more }) => Command::LineTicks {
+            ticks: ticks + more,
+        },
+        _ => Command::Ticks {
+            levels: levels_of(first)?
+                .iter()
+                .chain(levels_of(second)?.iter())
+                .collect(),
+        },
+    };
+    (joined.ticks() <= MOST_TICKS).then_some(joined)
 }
 
 fn levels_of(line: &[u8]) -> Option<Levels> {
@@ -474,7 +528,13 @@ fn change_number(command: &mut Command, number: usize, make: fn(i32) -> i32) {
                 }
             }
         },
-        Command::Start { half_bits, .. } if number == 0 => on_u8(&mut half_bits.len),
+        Command::Call(Call::Start { half_bits, .. }) if number == 0 => on_u8(&mut half_bits.len),
+        Command::Line { stations } if number == 0 => on_u8(stations),
+        Command::LineCall { station, call } => match (number, call) {
+            (0, _) => on_u8(station),
+            (1, Call::Start { half_bits, .. }) => on_u8(&mut half_bits.len),
+            _ => {}
+        },
         Command::Settle { ticks, lead } => match number {
             0 => on_u16(ticks),
             1 => on_u8(lead),

@@ -71,6 +71,18 @@ pub enum Start {
     Answer,
 }
 
+/// A call on a station, other than a tick.
+#[derive(Clone, Copy, PartialEq, Eq)]
+pub enum Call {
+    Policy { policy: CollisionPolicy },
+    Start { start: Start, half_bits: HalfBits },
+    Poll,
+    TakeIdle,
+    TakeRx,
+    Ack,
+    State,
+}
+
 /// Why a start call says no; the Rust has one word for both.
 #[derive(Clone, Copy, PartialEq, Eq, Debug)]
 pub enum Refusal {
@@ -143,31 +155,38 @@ impl Station {
         }
     }
 
-    /// Makes a call whose answer isn't wanted; nothing for a command of another kind.
+    /// Does what a command says where its answer isn't wanted; nothing for a command of another kind.
     pub fn make(&mut self, command: &Command) {
         match command {
             Command::New => *self = Self::new(),
-            Command::Policy { policy } => self.set_policy(*policy),
             Command::Tick { high } => {
                 self.tick(*high);
             }
             Command::Ticks { levels } => {
                 levels.answered(|high| self.tick(high));
             }
-            Command::Start { start, half_bits } => {
+            Command::Call(call) => self.make_call(call),
+            _ => {}
+        }
+    }
+
+    pub fn make_call(&mut self, call: &Call) {
+        match call {
+            Call::Policy { policy } => self.set_policy(*policy),
+            Call::Start { start, half_bits } => {
                 self.start(*start, half_bits);
             }
-            Command::Poll => {
+            Call::Poll => {
                 self.poll();
             }
-            Command::TakeIdle => {
+            Call::TakeIdle => {
                 self.take_idle();
             }
-            Command::TakeRx => {
+            Call::TakeRx => {
                 self.take_rx();
             }
-            Command::Ack => self.acknowledge(),
-            _ => {}
+            Call::Ack => self.acknowledge(),
+            Call::State => {}
         }
     }
 

@@ -9,7 +9,7 @@ use crate::fsm::{BusState, CollisionPolicy, RxState};
 use crate::levels::{Levels, HIGH, LOW};
 use crate::others::{any_frame, Mood, Others};
 use crate::random::Random;
-use crate::station::{HalfBits, Start, Station, MOST_HALF_BITS};
+use crate::station::{Call, HalfBits, Start, Station, MOST_HALF_BITS};
 
 pub const POLICIES: [CollisionPolicy; 3] = [
     CollisionPolicy::Auto,
@@ -92,15 +92,19 @@ impl StationLines {
         }
     }
 
-    /// Makes a call on the own station, and queues it. Ticks are made before their line is known.
+    /// Does it to the own station, and queues it. Ticks are made before their line is known.
     fn give(&mut self, command: Command) {
         self.station.make(&command);
         self.queued.push_back(command);
     }
 
+    fn call(&mut self, call: Call) {
+        self.give(Command::Call(call));
+    }
+
     fn give_policy(&mut self, random: &mut Random) {
         let policy = random.pick(&POLICIES);
-        self.give(Command::Policy { policy });
+        self.call(Call::Policy { policy });
     }
 
     fn one_tick(&mut self, random: &mut Random) -> bool {
@@ -176,11 +180,11 @@ impl StationLines {
     fn ask(&mut self, random: &mut Random) {
         for _ in 0..random.below(4) {
             let command = match random.below(48) {
-                0..=19 => Command::State,
-                20..=31 => Command::Poll,
-                32..=35 => Command::TakeIdle,
-                36..=43 => Command::TakeRx,
-                44..=46 => Command::Ack,
+                0..=19 => Command::Call(Call::State),
+                20..=31 => Command::Call(Call::Poll),
+                32..=35 => Command::Call(Call::TakeIdle),
+                36..=43 => Command::Call(Call::TakeRx),
+                44..=46 => Command::Call(Call::Ack),
                 _ => Command::Ticks {
                     levels: Levels::default(),
                 },
@@ -253,7 +257,7 @@ impl StationLines {
     /// False if the start is refused.
     fn start(&mut self, start: Start, half_bits: HalfBits) -> bool {
         let was_busy = self.station.is_busy();
-        self.give(Command::Start { start, half_bits });
+        self.call(Call::Start { start, half_bits });
         !was_busy && self.station.is_busy()
     }
 
@@ -366,12 +370,12 @@ impl StationLines {
         }
         let half_bits = any_half_bits(random);
         if self.start(Start::Answer, half_bits) {
-            self.give(Command::State);
+            self.call(Call::State);
             self.interfere(&half_bits, random);
             self.send_to_the_end(&half_bits, random);
         }
         self.capture_something_short(random);
-        self.give(Command::State);
+        self.call(Call::State);
     }
 
     fn capture_something_short(&mut self, random: &mut Random) {
@@ -388,16 +392,16 @@ impl StationLines {
         self.run(random.between(0, 3) as usize, random);
         let half_bits = any_half_bits(random);
         let started = self.start(any_start(random), half_bits);
-        self.give(match random.below(3) {
-            0 => Command::TakeRx,
-            1 => Command::State,
-            _ => Command::Ack,
+        self.call(match random.below(3) {
+            0 => Call::TakeRx,
+            1 => Call::State,
+            _ => Call::Ack,
         });
         if started {
             self.interfere(&half_bits, random);
             self.send_to_the_end(&half_bits, random);
         }
-        self.give(Command::TakeRx);
+        self.call(Call::TakeRx);
     }
 
     fn call_without_aim(&mut self, random: &mut Random) {
@@ -409,8 +413,8 @@ impl StationLines {
                 }
                 2 => self.give_policy(random),
                 3..=5 => self.run(random.between(0, 6) as usize, random),
-                6 => self.give(Command::TakeIdle),
-                7 => self.give(Command::State),
+                6 => self.call(Call::TakeIdle),
+                7 => self.call(Call::State),
                 _ => self.ask(random),
             }
         }
@@ -425,8 +429,8 @@ impl StationLines {
                 self.interfere(&half_bits, random);
             }
             self.run_until(600, random, |station| !station.is_busy());
-            self.give(Command::Poll);
-            self.give(Command::TakeIdle);
+            self.call(Call::Poll);
+            self.call(Call::TakeIdle);
             self.run(random.between(0, 30) as usize, random);
         }
     }
@@ -452,16 +456,16 @@ impl StationLines {
         for _ in 0..17 {
             self.run(MOST_TICKS, random);
             if random.one_in(8) {
-                self.give(Command::State);
+                self.call(Call::State);
             }
         }
-        self.give(Command::State);
+        self.call(Call::State);
         let half_bits = any_half_bits(random);
         self.hears_itself = random.one_in(2);
         if self.start(any_start(random), half_bits) {
             self.run(4 * usize::from(half_bits.len) + 4, random);
         }
-        self.give(Command::State);
+        self.call(Call::State);
     }
 }
 
@@ -486,11 +490,11 @@ pub fn any_gate(random: &mut Random) -> Command {
     Command::Gate { ticks }
 }
 
-fn any_start(random: &mut Random) -> Start {
+pub fn any_start(random: &mut Random) -> Start {
     random.pick(&[Start::Tx, Start::Tx, Start::Answer])
 }
 
-fn any_half_bits(random: &mut Random) -> HalfBits {
+pub fn any_half_bits(random: &mut Random) -> HalfBits {
     let mut half_bits = half_bits_of(&any_frame(random));
     match random.below(12) {
         0 => half_bits.len = random.byte(),

@@ -6,7 +6,7 @@ use crate::captures::{any_capture, bits_of, fast_capture, frame_capture, samples
 use crate::command::{Capture, Command, Rank, LONGEST_LINE};
 use crate::generate::{spoiled_in_way, ticks_line, Generator, Kind, SPOILED_WAYS};
 use crate::random::Random;
-use crate::{stored_encoder, stored_readings, stored_station};
+use crate::{stored_encoder, stored_line, stored_readings, stored_station};
 
 const SEED: u64 = 62386;
 /// The seeded part's lines.
@@ -14,6 +14,7 @@ const OF_DECODERS: usize = 900;
 const OF_READINGS: usize = 190;
 const OF_ENCODER: usize = 150;
 const OF_STATION: usize = 800;
+const OF_LINE: usize = 100;
 const SNIFFED: u32 = 1 << 8 | 1 << 16 | 1 << 24;
 const ONLY_8: u32 = 1 << 8;
 
@@ -25,6 +26,7 @@ pub fn script() -> Vec<u8> {
     stored_readings::bench_rows(&mut lines);
     stored_encoder::bench_rows(&mut lines);
     stored_station::bench_rows(&mut lines);
+    stored_line::bench_rows(&mut lines);
     findings(&mut lines);
     stored_readings::findings(&mut lines);
     stored_station::findings(&mut lines);
@@ -32,12 +34,15 @@ pub fn script() -> Vec<u8> {
     stored_readings::edges(&mut lines);
     stored_encoder::edges(&mut lines);
     stored_station::edges(&mut lines);
+    stored_line::edges(&mut lines);
     bad_lines(&mut lines);
     stored_encoder::bad_lines(&mut lines);
+    stored_line::bad_lines(&mut lines, &mut Random::new(SEED + 3));
     seeded(&mut lines, Kind::Decoders, OF_DECODERS);
     seeded(&mut lines, Kind::Readings, OF_READINGS);
     seeded(&mut lines, Kind::Encoder, OF_ENCODER);
     seeded(&mut lines, Kind::Station, OF_STATION);
+    seeded(&mut lines, Kind::Line, OF_LINE);
     lines.retain(|line| line.is_ascii());
     lines.push(phase(32, 0, &wave(&[0x01])));
     lines.join(&b'\n')

@@ -5,7 +5,7 @@ use crate::command::{Command, MOST_TICKS};
 use crate::encoder::half_bits_of;
 use crate::fsm::CollisionPolicy;
 use crate::levels::{Levels, HIGH, LOW};
-use crate::station::{HalfBits, Start, Station, HALF_BIT_BYTES};
+use crate::station::{Call, HalfBits, Start, Station, HALF_BIT_BYTES};
 use crate::station_lines::POLICIES;
 
 type Lines = Vec<Vec<u8>>;
@@ -23,33 +23,37 @@ impl<'a> Example<'a> {
             lines,
             station: Station::new(),
         };
-        example.call(Command::New);
+        example.give(Command::New);
         example
     }
 
-    fn call(&mut self, command: Command) {
+    fn give(&mut self, command: Command) {
         self.station.make(&command);
         self.lines.push(command.line());
     }
 
-    fn calls(&mut self, commands: &[Command]) {
-        for command in commands {
-            self.call(command.clone());
+    fn call(&mut self, call: Call) {
+        self.give(Command::Call(call));
+    }
+
+    fn calls(&mut self, calls: &[Call]) {
+        for call in calls {
+            self.call(*call);
         }
     }
 
     fn policy(&mut self, policy: CollisionPolicy) {
-        self.call(Command::Policy { policy });
+        self.call(Call::Policy { policy });
     }
 
     fn tick(&mut self, high: bool) {
-        self.call(Command::Tick { high });
+        self.give(Command::Tick { high });
     }
 
     /// Ticks whose levels are these, whatever the station drives.
     fn sees(&mut self, runs: Runs) {
         let levels = Levels::of_runs(runs);
-        self.call(Command::Ticks { levels });
+        self.give(Command::Ticks { levels });
     }
 
     /// Ticks on a line that others leave at these levels and the station drives too.
@@ -64,31 +68,31 @@ impl<'a> Example<'a> {
     }
 
     fn start(&mut self, start: Start, half_bits: HalfBits) {
-        self.call(Command::Start { start, half_bits });
+        self.call(Call::Start { start, half_bits });
     }
 
     fn state(&mut self) {
-        self.call(Command::State);
+        self.call(Call::State);
     }
 
     fn take_rx(&mut self) {
-        self.call(Command::TakeRx);
+        self.call(Call::TakeRx);
     }
 
     fn poll(&mut self) {
-        self.call(Command::Poll);
+        self.call(Call::Poll);
     }
 
     /// Everything that can be seen, and what telling changes of it.
     fn everything(&mut self) {
         self.calls(&[
-            Command::State,
-            Command::Poll,
-            Command::Poll,
-            Command::TakeIdle,
-            Command::TakeIdle,
-            Command::TakeRx,
-            Command::State,
+            Call::State,
+            Call::Poll,
+            Call::Poll,
+            Call::TakeIdle,
+            Call::TakeIdle,
+            Call::TakeRx,
+            Call::State,
         ]);
     }
 }
@@ -112,8 +116,8 @@ fn wave_and_end(bytes: &[u8]) -> Vec<(bool, usize)> {
 
 /// Document 01's bench rows on captures.
 pub fn bench_rows(lines: &mut Lines) {
-    let before_the_first_new = [Command::State, Command::Poll, Command::TakeRx];
-    lines.extend(before_the_first_new.map(|command| command.line()));
+    let before_the_first_new = [Call::State, Call::Poll, Call::TakeRx];
+    lines.extend(before_the_first_new.map(|call| Command::Call(call).line()));
     let mut example = Example::new(lines);
     example.sees(&[(LOW, 2), (HIGH, 16)]);
     example.everything();
@@ -353,7 +357,7 @@ fn ticks_of_every_number(lines: &mut Lines) {
             }
             let mut example = Example::new(lines);
             example.tick(HIGH);
-            example.call(Command::Ticks { levels });
+            example.give(Command::Ticks { levels });
             example.state();
         }
     }
@@ -370,7 +374,7 @@ fn ends_of_captures(lines: &mut Lines) {
         let mut example = Example::new(lines);
         example.sees(&[(LOW, lows), (HIGH, 15), (LOW, 1), (HIGH, 16)]);
         example.state();
-        example.calls(&[Command::Ack, Command::TakeRx, Command::State]);
+        example.calls(&[Call::Ack, Call::TakeRx, Call::State]);
     }
 }
 
@@ -469,7 +473,7 @@ fn tick_by_tick_through_a_break(lines: &mut Lines) {
         for tick in 1..=16 {
             example.state();
             if tick == 3 || tick == 12 {
-                example.calls(&[Command::Poll, Command::Poll, Command::TakeIdle]);
+                example.calls(&[Call::Poll, Call::Poll, Call::TakeIdle]);
             }
             example.tick(last);
         }
@@ -483,7 +487,7 @@ fn pulls_about_the_end_of_a_break(lines: &mut Lines) {
         example.start(Start::Answer, half_bits(9, 0x00));
         example.hears(&[(HIGH, 6), (LOW, 1), (HIGH, 11)]);
         example.sees(&[0, 1, 2, 3].map(|tick| (levels >> tick & 1 != 0, 1)));
-        example.calls(&[Command::TakeIdle, Command::Poll, Command::State]);
+        example.calls(&[Call::TakeIdle, Call::Poll, Call::State]);
         example.tick(LOW);
         example.state();
     }
@@ -590,24 +594,24 @@ pub fn good_lines() -> Lines {
     let levels = Levels::of_runs(&[(LOW, 5), (HIGH, 14), (LOW, 3)]);
     [
         Command::New,
-        Command::Policy {
+        Command::Call(Call::Policy {
             policy: CollisionPolicy::On,
-        },
+        }),
         Command::Tick { high: HIGH },
         Command::Ticks { levels },
-        Command::Start {
+        Command::Call(Call::Start {
             start: Start::Tx,
             half_bits: half_bits(22, 0x95),
-        },
-        Command::Start {
+        }),
+        Command::Call(Call::Start {
             start: Start::Answer,
             half_bits: half_bits(1, 0x0A),
-        },
-        Command::Poll,
-        Command::TakeIdle,
-        Command::TakeRx,
-        Command::Ack,
-        Command::State,
+        }),
+        Command::Call(Call::Poll),
+        Command::Call(Call::TakeIdle),
+        Command::Call(Call::TakeRx),
+        Command::Call(Call::Ack),
+        Command::Call(Call::State),
         Command::Settle { ticks: 65, lead: 7 },
         Command::Gate { ticks: 13 },
     ]

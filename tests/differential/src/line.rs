@@ -1,0 +1,98 @@
+//! Document 01's bench line: one to four of the unchanged Rust's stations on one wire, which nothing else pulls.
+
+use crate::command::Command;
+use crate::fsm::BusState;
+use crate::levels::{Levels, HIGH};
+use crate::station::Station;
+
+pub const MOST_STATIONS: u8 = 4;
+
+#[derive(Clone, Copy, PartialEq, Eq)]
+pub enum Refusal {
+    StationNumber = 9,
+    StationCount = 10,
+}
+
+pub struct BenchLine {
+    stations: Vec<Station>,
+    /// The level that the last tick left.
+    high: bool,
+}
+
+impl BenchLine {
+    /// A new line, and none for a count that it can't have.
+    pub fn of(stations: u8) -> Result<Self, Refusal> {
+        if !(1..=MOST_STATIONS).contains(&stations) {
+            return Err(Refusal::StationCount);
+        }
+        Ok(Self {
+            stations: (0..stations).map(|_| Station::new()).collect(),
+            high: HIGH,
+        })
+    }
+
+    /// The line that is there before any is asked for.
+    pub fn of_one() -> Self {
+        Self {
+            stations: vec![Station::new()],
+            high: HIGH,
+        }
+    }
+
+    /// Every station samples the level that the tick before left; only then is the level made up that this one leaves.
+    pub fn tick(&mut self) -> bool {
+        let sampled = self.high;
+        for station in &mut self.stations {
+            station.tick(sampled);
+        }
+        self.high = self.stations.iter().all(Station::drives_high);
+        self.high
+    }
+
+    /// The level that each of so many ticks leaves.
+    pub fn ticks(&mut self, ticks: usize) -> Levels {
+        let mut left = Levels::with_room_for(ticks);
+        for _ in 0..ticks {
+            left.push(self.tick());
+        }
+        left
+    }
+
+    /// Does what a command says where its answer isn't wanted; nothing for a command of another kind.
+    pub fn make(&mut self, command: &Command) {
+        match command {
+            Command::Line { stations } => {
+                if let Ok(line) = Self::of(*stations) {
+                    *self = line;
+                }
+            }
+            Command::LineTicks { ticks } => {
+                self.ticks(*ticks);
+            }
+            Command::LineCall { station, call } => {
+                if let Ok(station) = self.station_mut(*station) {
+                    station.make_call(call);
+                }
+            }
+            _ => {}
+        }
+    }
+
+    pub fn all_are_idle(&self) -> bool {
+        let mut stations = self.stations.iter();
+        stations.all(|station| station.bus_state() == BusState::Idle)
+    }
+
+    pub fn is_high(&self) -> bool {
+        self.high
+    }
+
+    pub fn stations(&self) -> &[Station] {
+        &self.stations
+    }
+
+    pub fn station_mut(&mut self, number: u8) -> Result<&mut Station, Refusal> {
+        let station = self.stations.get_mut(usize::from(number));
+        station.ok_or(Refusal::StationNumber)
+    }
+}
