@@ -3,11 +3,13 @@ ghost use Prim.Native.Nat.{_+_, _≤_};
 ghost use Rattle.calls.specs.Bounds.{Room};
 use crate::answer;
 use crate::answer::Answers;
+use crate::bench;
 use crate::decoders;
 use crate::encoder;
 use crate::kept_search;
 use crate::readings;
 use crate::station;
+use bench_line::BenchLine;
 use fsm::DaliBitbangPhy;
 use lengths::BitLengths;
 use search::BestPhaseSearch;
@@ -21,6 +23,7 @@ pub(crate) const ANSWER_MAX: usize = 10_000;
 pub(crate) struct Kept {
     search: BestPhaseSearch,
     station: DaliBitbangPhy,
+    bench: BenchLine,
 }
 
 // What an answer leaves: what is kept, and the place past the answer.
@@ -30,12 +33,16 @@ pub(crate) struct Answered {
 }
 
 impl Kept {
-    // Before its first `bsnew` the kept search prefers no length, and before its first `new` the station is a new one.
+    // Before its first `bsnew` the kept search prefers no length, before its first `new` the station is a new one, and before its first
+    // `line` the bench line has one station.
     pub(crate) fn new() -> Kept {
         let none = [0u8; 0];
+        let made = BenchLine::new(1);
+        let bench = made.line;
         Kept {
             search: BestPhaseSearch::new(BitLengths::of(&none)),
             station: DaliBitbangPhy::new(),
+            bench,
         }
     }
 }
@@ -60,8 +67,7 @@ pub(crate) fn answer(line: &[u8], kept: Kept, out: &mut Answers, at: usize) -> A
     }
 }
 
-// A family writes nothing where the command isn't one of its own or a field is bad. A new family is asked here, and what it keeps
-// joins `Kept`.
+// A family writes nothing where the command isn't one of its own or a field is bad. Those that keep nothing are asked first.
 fn command(line: &[u8], kept: Kept, out: &mut Answers, at: usize) -> Answered
     requires { ⌜ Room at 9999 ⌝ }
     ensures { λ r. ⌜ r .at ≤ at + 9999 ⌝ }
@@ -81,20 +87,40 @@ fn command(line: &[u8], kept: Kept, out: &mut Answers, at: usize) -> Answered
     if at < end {
         return Answered { kept, at: end };
     }
+    command_on_kept(line, kept, out, at)
+}
+
+// The families that keep something. A new one is asked here, and what it keeps joins `Kept`.
+fn command_on_kept(line: &[u8], kept: Kept, out: &mut Answers, at: usize) -> Answered
+    requires { ⌜ Room at 1027 ⌝ }
+    ensures { λ r. ⌜ r .at ≤ at + 1027 ⌝ }
+{
     let searched = kept_search::answer(line, kept.search, out, at);
     let end = searched.at;
-    let search = searched.search;
+    let mut next = kept;
     if at < end {
-        let station = kept.station;
+        let search = searched.search;
+        next.search = search;
         return Answered {
-            kept: Kept { search, station },
+            kept: next,
             at: end,
         };
     }
     let called = station::answer(line, kept.station, out, at);
-    let station = called.station;
+    let end = called.at;
+    if at < end {
+        let station = called.station;
+        next.station = station;
+        return Answered {
+            kept: next,
+            at: end,
+        };
+    }
+    let asked = bench::answer(line, kept.bench, out, at);
+    let bench = asked.bench;
+    next.bench = bench;
     Answered {
-        kept: Kept { search, station },
-        at: called.at,
+        kept: next,
+        at: asked.at,
     }
 }

@@ -1,6 +1,8 @@
 // The call protocol of document 04 over the proved functions: a command a line on standard input, an answer a line on standard
 // output. Here bytes are only moved: `lines` cuts them into lines, `commands` answers a line.
 mod answer;
+mod bench;
+mod bench_reports;
 mod commands;
 mod decoders;
 mod encoder;

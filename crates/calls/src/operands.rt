@@ -9,12 +9,13 @@ use crate::values::Number;
 use crate::values::Phase;
 use fsm::CollisionPolicy;
 use fsm::RxCompletedEvent;
+use halfbits::HalfBitBuffer;
 use lengths::BitLengths;
 use window::DALI_RX_SAMPLE_BUF_LEN;
 use window::PhaseDecode;
 use window::SampleWindow;
 
-// An enum holds no array, so an event and a window each stand beside what is to be thought of it.
+// An enum holds no array, so an event, a window and half-bits each stand beside what is to be thought of them.
 pub(crate) struct Heard {
     pub(crate) good: bool,
     pub(crate) event: RxCompletedEvent,
@@ -23,6 +24,11 @@ pub(crate) struct Heard {
 pub(crate) struct Capture {
     pub(crate) good: bool,
     pub(crate) window: SampleWindow,
+}
+
+pub(crate) struct Sending {
+    pub(crate) good: bool,
+    pub(crate) halfbits: HalfBitBuffer,
 }
 
 pub(crate) enum Preferred {
@@ -79,6 +85,23 @@ pub(crate) fn read_capture(line: &[u8], n: u8) -> Capture
         good: heard.good,
         window: SampleWindow::of_capture(&samples, event.sample_count),
     }
+}
+
+// `LEN HEX14`, the last two fields of a line, from field n on.
+pub(crate) fn read_halfbits(line: &[u8], n: u8) -> Sending
+    requires { ⌜ n < 255 ⌝ }
+{
+    let mut data = [0u8; HalfBitBuffer::DATA_LEN];
+    let Byte::Is(length) = values::read_byte(fields::field(line, n)) else {
+        let halfbits = HalfBitBuffer { data, length: 0 };
+        return Sending {
+            good: false,
+            halfbits,
+        };
+    };
+    let good = values::read_hex(fields::rest(line, n + 1), &mut data);
+    let halfbits = HalfBitBuffer { data, length };
+    Sending { good, halfbits }
 }
 
 // `MASKHEX8`: bit n of the number stands for the length n.

@@ -37,7 +37,7 @@ pub(crate) fn put_poll(out: &mut Answers, at: usize, station: DaliBitbangPhy) ->
     }
 }
 
-fn put_poll_result(out: &mut Answers, at: usize, result: TxPollResult) -> usize
+pub(crate) fn put_poll_result(out: &mut Answers, at: usize, result: TxPollResult) -> usize
     requires { ⌜ Room at 12 ⌝ }
     ensures { λ r. ⌜ r ≤ at + 12 ⌝ }
 {
@@ -69,17 +69,27 @@ pub(crate) fn put_taken_rx(out: &mut Answers, at: usize, station: DaliBitbangPhy
 {
     let took = station.take_completed_rx_event();
     let next = took.station;
-    if took.completed {
-        let at = answer::put_text(out, at, b"event");
-        return Called {
-            station: next,
-            at: put_event(out, at, took.event),
-        };
-    }
+    let event = took.event;
     Called {
         station: next,
-        at: answer::put_text(out, at, b"none"),
+        at: put_event_if(out, at, took.completed, event),
     }
+}
+
+pub(crate) fn put_event_if(
+    out: &mut Answers,
+    at: usize,
+    completed: bool,
+    event: RxCompletedEvent,
+) -> usize
+    requires { ⌜ Room at 146 ⌝ }
+    ensures { λ r. ⌜ r ≤ at + 146 ⌝ }
+{
+    if completed {
+        let at = answer::put_text(out, at, b"event");
+        return put_event(out, at, event);
+    }
+    answer::put_text(out, at, b"none")
 }
 
 // ` COUNT PRE HEX128`, of 6 + 6 + 1 + 128 bytes at most

@@ -13,7 +13,6 @@ use crate::values;
 use crate::values::Byte;
 use crate::values::Number;
 use fsm::DaliBitbangPhy;
-use halfbits::HalfBitBuffer;
 
 // What an answer leaves: the station that is kept, and the place past the answer.
 pub(crate) struct Called {
@@ -95,14 +94,11 @@ fn start(
     requires { ⌜ Room at 13 ⌝ }
     ensures { λ r. ⌜ r .at ≤ at + 13 ⌝ }
 {
-    let Byte::Is(length) = values::read_byte(fields::field(line, 1)) else {
-        return Called { station, at };
-    };
-    let mut data = [0u8; HalfBitBuffer::DATA_LEN];
-    if !values::read_hex(fields::rest(line, 2), &mut data) {
+    let sending = operands::read_halfbits(line, 1);
+    if !sending.good {
         return Called { station, at };
     }
-    let halfbits = HalfBitBuffer { data, length };
+    let halfbits = sending.halfbits;
     let started = if answers {
         station.start_answer(halfbits)
     } else {

@@ -1,13 +1,15 @@
-// The commands that tick the station. A wave has eight levels to a byte, the first at the top, and a high one is 1.
+// The commands that tick the station or the bench line. A wave has eight levels to a byte, the first at the top, and a high one is 1.
 ghost use Prim.Native.Nat.{_+_, _≤_};
 ghost use Rattle.calls.specs.Bounds.{Room};
 use crate::answer;
 use crate::answer::Answers;
+use crate::bench::Asked;
 use crate::fields;
 use crate::station::Called;
 use crate::values;
 use crate::values::Count;
 use crate::values::Number;
+use bench_line::BenchLine;
 use fsm::DaliBitbangPhy;
 
 const TICKS_MAX: u16 = 4096;
@@ -31,13 +33,12 @@ pub(crate) fn tick(line: &[u8], station: DaliBitbangPhy, out: &mut Answers, at: 
     if 1 < level {
         return Called { station, at };
     }
-    let levels = [(level as u8) << 7; WAVE_BYTES];
-    let ran = run(station, &levels, 1);
-    let next = ran.station;
+    let ticked = station.tick(level == 1);
+    let next = ticked.station;
     let at = answer::put_text(out, at, b"d ");
     Called {
         station: next,
-        at: answer::put_truth(out, at, next.driven_high()),
+        at: answer::put_truth(out, at, ticked.driven_high),
     }
 }
 
@@ -71,12 +72,39 @@ fn put_ran(out: &mut Answers, at: usize, ran: Ran, bytes: usize) -> Called
     let at = answer::put_text(out, at, b"d ");
     Called {
         station,
-        at: answer::put_bytes(out, at, &driven[..bytes]),
+        at: put_wave(out, at, &driven, bytes),
     }
 }
 
-// Ticks the station with the first `count` levels of a wave. The fill of the wave that it drove is 0. The program calls the station's
-// `tick` here alone: the compiler makes a function that is called once a part of the loop, and one that is called twice it does not.
+// `lticks N`
+pub(crate) fn lticks(line: &[u8], bench: BenchLine, out: &mut Answers, at: usize) -> Asked
+    requires { ⌜ Room at 1027 ⌝ }
+    ensures { λ r. ⌜ r .at ≤ at + 1027 ⌝ }
+{
+    let Number::Is(number) = values::read_number(fields::rest(line, 1), TICKS_MAX) else {
+        return Asked { bench, at };
+    };
+    let count = number as usize;
+    let mut left = [0u8; WAVE_BYTES];
+    let next = run_bench(bench, count, &mut left);
+    let at = answer::put_text(out, at, b"l ");
+    Asked {
+        bench: next,
+        at: put_wave(out, at, &left, (count + 7) / 8),
+    }
+}
+
+// The first bytes of a wave
+fn put_wave(out: &mut Answers, at: usize, wave: &Wave, bytes: usize) -> usize
+    requires { ⌜ Room at 1025 ⌝ }
+    requires { ⌜ bytes ≤ 512 ⌝ }
+    ensures { λ r. ⌜ r ≤ at + 1025 ⌝ }
+{
+    let all: &[u8] = wave;
+    answer::put_bytes(out, at, &all[..bytes])
+}
+
+// Ticks the station with the first `count` levels of a wave. The fill of the wave that it drove is 0.
 fn run(mut station: DaliBitbangPhy, levels: &Wave, count: usize) -> Ran
     requires { ⌜ count ≤ 4096 ⌝ }
 {
@@ -91,4 +119,19 @@ fn run(mut station: DaliBitbangPhy, levels: &Wave, count: usize) -> Ran
         i += 1;
     }
     Ran { station, driven }
+}
+
+// Ticks the bench line `count` times, and puts the levels that the ticks left into a wave that was all low.
+fn run_bench(mut bench: BenchLine, count: usize, left: &mut Wave) -> BenchLine
+    requires { ⌜ count ≤ 4096 ⌝ }
+{
+    let mut i = 0;
+    while i < count {
+        let at = i / 8;
+        let place = 7 - i % 8;
+        bench = bench.tick();
+        left[at] = left[at] | (bench.level() as u8) << place;
+        i += 1;
+    }
+    bench
 }
