@@ -3,7 +3,6 @@
 use mathlib.Core.Path.{sym, _∙_}
 use Rattle.laws.proofs.Only.{Only, named}
 use Rattle.bench_line.proofs.BenchLine.new.Reads as new-line
-use Rattle.bench_line.proofs.BenchLine.count.Reads as count
 use Rattle.bench_line.proofs.BenchLine.level.Reads as level
 use Rattle.bench_line.proofs.BenchLine.tick.Reads as tick
 use Rattle.bench_line.proofs.BenchLine.station.Reads as station
@@ -17,9 +16,6 @@ use Rattle.bench_line.proofs.BenchLine.take_completed_rx_event.Reads as
 
 pub new-line-sole : (κs : _) (a : _) (x : _) → Only (λ r. new-line.Post κs a r x)
 new-line-sole κs a x = λ r s p q. p .0 ∙ sym (q .0)
-
-pub count-sole : (κs : _) (a : _) (x : _) → Only (λ r. count.Post κs a r x)
-count-sole κs a x = named _
 
 pub level-sole : (κs : _) (a : _) (x : _) → Only (λ r. level.Post κs a r x)
 level-sole κs a x = named _

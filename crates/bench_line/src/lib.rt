@@ -236,12 +236,6 @@ impl BenchLine {
         }
     }
 
-    pub fn count(self) -> u8
-        ensures { λ r. ⌜ r ≡ self .count ⌝ }
-    {
-        self.count
-    }
-
     // The level that the last tick left.
     pub fn level(self) -> bool
         ensures { λ r. ⌜ r ≡ self .level ⌝ }
