@@ -1,5 +1,5 @@
 -- Lines and senders that the theorems speak of: a new line, and one on which a frame was sent before and policies were set. Assumes nothing.
-use Prim.Native.Nat.{ℕ, zero, suc, _<_, min}
+use Prim.Native.Nat.{ℕ, zero, suc, _<_, _≤_, min}
 use native.Mathlib.Omega.{arith}
 use native.Mathlib.Decide.{ℕ-discrete}
 use mathlib.Core.Bool.{true, false, false≢true}
@@ -12,7 +12,7 @@ use Rattle.laws.specs.Packed.{packed}
 use Rattle.laws.specs.Pick.{pick}
 use Rattle.laws.specs.Tabulate.{tabulate}
 use Rattle.laws.proofs.Picked.{on-true}
-use Rattle.halfbits.specs.Frame.{Frame, bytesOf, bitAt, bitsOf, AreBytes}
+use Rattle.halfbits.specs.Frame.{Frame, bytesOf, bitAt, bitsOf, AreBytes, frameBits}
 use Rattle.halfbits.specs.Wave.{bitWave, bitWaves, waveOf, levelAt}
 use Rattle.halfbits.specs.HalfBits.{pulls, storeOf, bufferOf}
 use Rattle.halfbits.specs.Encoding.{isBitCount, frameOf, encodedOf}
@@ -20,25 +20,28 @@ use Rattle.machine.specs.declared.CollisionPolicy.{CollisionPolicy}
 use Rattle.machine.specs.declared.CollisionPolicy.the-variants.{Auto, Off, On}
 use Rattle.machine.specs.Sending.{watchesOf}
 use Rattle.fsm.specs.declared.DaliBitbangPhy.{DaliBitbangPhy}
+use Rattle.fsm.specs.declared.StartAnswer.the-variants.{Started}
 use Rattle.fsm.specs.Station.{newCore, newStation}
 use Rattle.fsm.specs.Calls.{withPolicy}
 use Rattle.bench_line.specs.declared.BenchLine.{BenchLine}
 use Rattle.bench_line.specs.declared.LineChanged.{LineChanged}
+use Rattle.bench_line.specs.declared.LineStart.the-variants.{Told}
 use Rattle.bench_line.specs.Line.{stationsOn, stationAt, withStation, newLine}
 use Rattle.bench_line.specs.Refusals.{isCount}
 use Rattle.bench_line.specs.Calls.{changedAt}
 use Rattle.frames.specs.Ticks.{IsIdle}
 use Rattle.frames.specs.Sends.{Start, by-start-tx, by-start-answer}
 use Rattle.line_theorems.specs.Reached.{lineAfter, policy, ReachedLine, new-line, called}
-use Rattle.line_theorems.specs.OnLine.{ticksOn, AllIdle, Sender, bufferIn, IsSender, startedOn}
-use Rattle.line_theorems.specs.LoneSender.{Alone}
-use Rattle.line_theorems.specs.TwoSenders.{Watches, Pair, Agreed, pullsIn, FirstDifference, Clashed}
+use Rattle.line_theorems.specs.OnLine.{frameIn, HoldsFrame, ticksOn, AllIdle, Sender, bufferIn, IsSender, startedOn}
+use Rattle.line_theorems.specs.LoneSender.{Alone, completeAt}
+use Rattle.line_theorems.specs.TwoSenders.{Watches, Pair, bothOn, Agreed, pullsIn, FirstDifference, Clashed}
+use Rattle.line_theorems.specs.Clash.{clashAt, Breaks}
 use Rattle.line_theorems.specs.BenchRows.{zeros, eighty, ClashRow}
 use Rattle.line_theorems.proofs.Lines.{line-invariants}
 use Rattle.line_theorems.proofs.Hearing.{ticks-reached, same-count}
 use Rattle.line_theorems.proofs.Starting.{same-stations, reached-on}
-use Rattle.line_theorems.proofs.LoneSender.{lone-sender}
-use Rattle.line_theorems.proofs.TwoSenders.{equal-frames, different-frames, clash-ticks}
+use Rattle.line_theorems.proofs.LoneSender.{lone-sender, lone-sender-from}
+use Rattle.line_theorems.proofs.TwoSenders.{both-started, equal-frames, different-frames, clash-ticks}
 
 -- ---- a new line
 auto-not-off : Auto ≡ Off → ⊥
@@ -276,8 +279,17 @@ two-watches : stationAt old-line 2 .core .«collision_policy» ≡ Auto
 two-watches = set-policy watched-once watched-reached watched-idle 2 (omega (arith, watched-four)) Auto
 
 -- It is heard again, whoever sends, and in whatever way.
-pub old-line-hears : (n : ℕ) → n < 4 → (x y : ℕ) → x < 256 → y < 256 → (by : Start) → Alone old-line (sends-16 n by x y)
-old-line-hears n on x y h k by = lone-sender old-line old-reached old-idle (sends-16 n by x y) (is-16 old-line n by x y (omega (arith, on, old-four)) h k)
+module _ (n : ℕ) (on : n < 4) (x y : ℕ) (h : x < 256) (k : y < 256) (by : Start) where
+  on-old : IsSender old-line (sends-16 n by x y)
+  on-old = is-16 old-line n by x y (omega (arith, on, old-four)) h k
+
+  pub old-line-hears : Alone old-line (sends-16 n by x y)
+  old-line-hears = lone-sender old-line old-reached old-idle (sends-16 n by x y) on-old
+
+  pub old-line-hears-from : (ticks : ℕ) → completeAt (frameBits (frameIn (sends-16 n by x y))) ≤ ticks → (listener : ℕ) → listener < 4 → (listener ≡ n → ⊥)
+      → HoldsFrame (frameIn (sends-16 n by x y)) listener (ticksOn ticks (startedOn old-line (sends-16 n by x y) .line))
+  old-line-hears-from ticks complete listener here apart =
+      lone-sender-from old-line old-reached old-idle (sends-16 n by x y) on-old ticks .0 complete listener (omega (arith, here, old-four)) apart
 
 -- Two that send on it agree if their frames are equal, and else know that they clashed.
 module _ (x y : ℕ) (h : x < 256) (k : y < 256) (u v w : ℕ) (p : u < 256) (q : v < 256) (r : w < 256) (by other-by : Start) where
@@ -308,8 +320,20 @@ module _ (x y : ℕ) (h : x < 256) (k : y < 256) (u v w : ℕ) (p : u < 256) (q 
   old-line-agrees =
       equal-frames old-line old-reached old-idle one long (old-pair long refl (is-24 old-line 2 other-by u v w (omega (arith, old-four)) p q r) refl) refl
 
+  short-pair : Pair old-line one short
+  unfolding pick
+  short-pair = old-pair short refl (is-16 old-line 2 other-by x y (omega (arith, old-four)) h k) refl
+
+  pub old-line-starts : (startedOn old-line one .answer ≡ Told Started) × (startedOn (startedOn old-line one .line) short .answer ≡ Told Started)
+  old-line-starts = both-started old-line old-reached old-idle one short short-pair
+
   pub old-line-clashes : (j : ℕ) × Clashed old-line one short j
   unfolding bytes-in bytesOf frameOf pick
   old-line-clashes =
-      different-frames old-line old-reached old-idle one short (old-pair short refl (is-16 old-line 2 other-by x y (omega (arith, old-four)) h k) refl)
-      (λ e. let none : ⊥ = omega (arith, ap bytes-in e) in none)
+      different-frames old-line old-reached old-idle one short short-pair (λ e. let none : ⊥ = omega (arith, ap bytes-in e) in none)
+
+  -- and so each breaks at its tick
+  pub old-line-breaks : let j = old-line-clashes .0 in
+      Breaks (bothOn old-line one short) 0 (clashAt (bufferIn one) j) (pullsIn (bufferIn one) j)
+      × Breaks (bothOn old-line one short) 2 (clashAt (bufferIn short) j) (pullsIn (bufferIn short) j)
+  old-line-breaks = clash-ticks old-line old-reached old-idle one short short-pair (old-line-clashes .0) (old-line-clashes .1 .first-difference)
