@@ -25,7 +25,7 @@ stationAt l number = getD (l .stations) number newStation
 abbrev pub withStation : BenchLine → ℕ → DaliBitbangPhy → BenchLine
 withStation l number s = record { stations = set (l .stations) number s; count = l .count; level = l .level }
 
--- A new line is high and its stations are new; so are those in the places past its count.
+-- Before its first tick a line is high. All four places hold a new station, whatever the count.
 unfoldable pub newLine : ℕ → BenchLine
 newLine count = record { stations = replicate 4 newStation; count = count; level = true }
 
@@ -36,7 +36,7 @@ allTicked zero level ss = ss
 allTicked (suc n) level [] = []
 allTicked (suc n) level (s ∷ ss) = tickOf s level ∷ allTicked n level ss
 
--- The line is low if any of the first n stations drives low. Nothing else pulls it.
+-- One of the first n stations that drives low makes the line low; nothing else could.
 unfoldable pub levelLeft : ℕ → List DaliBitbangPhy → Bool
 levelLeft zero ss = true
 levelLeft (suc n) [] = true
