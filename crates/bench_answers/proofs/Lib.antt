@@ -1,0 +1,5 @@
+pub mod Decimals
+pub mod Lengths
+pub mod ReadBack
+pub mod Sole
+pub mod Writes
