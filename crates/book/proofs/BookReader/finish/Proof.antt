@@ -1,0 +1,79 @@
+-- `book::BookReader::finish` meets its contract. Assumes nothing.
+use native.Mathlib.Omega.{arith}
+use mathlib.Core.Path.{sym, _∙_}
+use borrow.Author.Needs.{needs}
+use Rattle.book.proofs.Finishing.{room-behind, too-short, when-full, when-none, when-some}
+use Rattle.book.proofs.Steps.{not-full}
+use Rattle.book.proofs.BookReader.finish.Statement.{statement}
+use Rattle.book.proofs.BookReader.finish.Tie as tie
+
+returns : tie.Need-returns
+returns c = too-short _ _ (c .if1 .taken)
+
+is-full-requires : tie.Need-is-full-requires
+is-full-requires c κs = search needs
+
+put-end-requires : tie.Need-put-end-requires
+put-end-requires c κs = search needs
+
+same-length : tie.Need-same-length
+same-length c = search needs
+
+returns-2 : tie.Need-returns-2
+returns-2 c =
+    let put = c .before .before .put-end .ensures in
+    let full = c .before .before .before .before in
+    when-full _ _ (full .before .before .if1 .left) _ _ (sym (full .before .is-full .ensures) ∙ full .if2 .taken) (put .0) (put .1 .0) (put .1 .1)
+
+put-end-requires-2 : tie.Need-put-end-requires-2
+put-end-requires-2 c κs = search needs
+
+same-length-2 : tie.Need-same-length-2
+same-length-2 c = search needs
+
+returns-3 : tie.Need-returns-3
+returns-3 c =
+    let put = c .before .before .put-end2 .ensures in
+    let none = c .before .before .before .before in
+    let full = none .before .before in
+    when-none _ _ (full .before .before .if1 .left) _ _ (sym (full .before .is-full .ensures) ∙ full .if2 .left) (none .if3 .taken) (put .0) (put .1 .0) (put .1 .1)
+
+end-line-requires : tie.Need-end-line-requires
+end-line-requires c κs =
+    let full = c .before .before .before .before .before in
+    (not-full _ (sym (full .before .is-full .ensures) ∙ full .if2 .left), omega (arith, full .before .before .if1 .left))
+
+put-end-requires-3 : tie.Need-put-end-requires-3
+put-end-requires-3 c κs =
+    let line = c .before .before .before in
+    let full = line .before .before .before .before .before .before in
+    room-behind (full .before .before .if1 .left) (line .end-line .ensures)
+
+same-length-3 : tie.Need-same-length-3
+same-length-3 c = search needs
+
+returns-4 : tie.Need-returns-4
+returns-4 c =
+    let put = c .before .before .put-end3 .ensures in
+    let line = c .before .before .before .before .before .before in
+    let some = line .before .before .before .before in
+    let full = some .before .before in
+    when-some _ _ (full .before .before .if1 .left) _ _ (sym (full .before .is-full .ensures) ∙ full .if2 .left) (some .if3 .left) _ _ (line .end-line .ensures)
+    (put .0) (put .1 .0) (put .1 .1)
+
+pub finish-spec : {M : Type 1} → statement M
+finish-spec =
+    tie.close
+    (tie.spec
+    returns
+    is-full-requires
+    put-end-requires
+    same-length
+    returns-2
+    put-end-requires-2
+    same-length-2
+    returns-3
+    end-line-requires
+    put-end-requires-3
+    same-length-3
+    returns-4)

@@ -1,0 +1,4 @@
+pub mod Code
+pub mod Reader
+pub mod Report
+pub mod Whole
