@@ -1,11 +1,14 @@
 //! Captures as stations make them, and as they never should: waves of frames, exact and damaged, and
 //! bytes that are no wave at all.
 
+use std::iter::repeat_n;
 use std::ops::Range;
 
 use crate::command::{Capture, SAMPLES};
 use crate::encoder::HALF_BIT_TICKS;
+use crate::levels::HIGH;
 use crate::random::Random;
+use crate::station::Station;
 
 pub const TICKS: usize = 8 * SAMPLES;
 /// A station ends a capture on this many high ticks running.
@@ -74,6 +77,44 @@ pub fn frame_capture(bits: &[bool]) -> Capture {
 /// The same of a wave that is too fast, with seven ticks a bit.
 pub fn fast_capture(bits: &[bool]) -> Capture {
     capture_of_frame(bits, |_| [3, 4])
+}
+
+/// The same of a wave of which each run of ticks is one too long, one too short, or as long as it should be.
+pub fn jittered_capture(bits: &[bool], random: &mut Random) -> Capture {
+    let mut runs = Runs::new();
+    push_frame(&mut runs, bits, bit_of_eight_ticks, random);
+    all_runs_jittered(&mut runs, random);
+    Wave::of(0, &runs).captured()
+}
+
+/// What an idle station makes of a line that is low for so many ticks: the bytes before the last slot are kept, and there the capture ends
+/// with ones.
+pub fn held_capture(low_ticks: usize) -> Capture {
+    let count = SAMPLES.min((low_ticks + IDLE_TICKS) / 8 + 1);
+    let kept = 8 * (SAMPLES - 1);
+    low_capture(count as u16, &[0..kept.min(low_ticks)])
+}
+
+/// Runs of any length as a station would capture them, or bytes as none would.
+pub fn noise_capture(random: &mut Random) -> Capture {
+    if random.one_in(2) {
+        any_runs(random)
+    } else {
+        any_bytes(random)
+    }
+}
+
+/// The capture that an idle station of the Rust makes of these levels, after which the line is idle.
+pub fn heard(levels: impl Iterator<Item = bool>) -> Capture {
+    let mut station = Station::new();
+    for high in levels.chain(repeat_n(HIGH, IDLE_TICKS)) {
+        station.tick(high);
+    }
+    let event = station.last_event();
+    Capture {
+        count: event.sample_count,
+        samples: event.samples,
+    }
 }
 
 fn capture_of_frame(bits: &[bool], halves: fn(&mut Random) -> [u8; 2]) -> Capture {

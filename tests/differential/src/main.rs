@@ -1,13 +1,18 @@
-//! The Rust side of the differential runs: answers the call protocol over the unchanged Rust, makes
-//! scripts, and compares another program's answers with the Rust's.
+//! The Rust side of the differential runs: answers the call protocol and the bench reader's books over the
+//! unchanged Rust, makes scripts and books, and compares another program's answers with the Rust's.
 
 mod answer;
+mod book_runs;
+mod books;
 mod captures;
 mod command;
 mod compare;
 mod coverage;
+mod damage;
+mod day;
 mod demand;
 mod demand_lines;
+mod edges;
 mod encoder;
 mod frame_lines;
 mod frames;
@@ -20,8 +25,10 @@ mod lines;
 mod original;
 mod others;
 mod pairs;
+mod pipe;
 mod program;
 mod random;
+mod reader;
 mod shrink;
 mod stated;
 mod station;
@@ -39,6 +46,7 @@ use std::io::{self, BufRead, BufWriter, Write};
 use std::path::Path;
 use std::process::ExitCode;
 
+use books::Book;
 use generate::{Generator, Kind};
 
 const USAGE: &str = "usage:
@@ -52,12 +60,20 @@ const USAGE: &str = "usage:
   differential lines --calls PROGRAM [--seed S] [--lone N] [--pairs N] [--batch B]
                                                       demand 3, so many runs with one sender and with two
   differential store --to FOLDER                      writes FOLDER/stdin and FOLDER/stdout
+  differential reader                                 answers the book on standard input
+  differential book --lines N --kind BOOK --seed S    writes a book; BOOK is clean, mixed or damaged
+  differential edges                                  writes the book of edge lines
+  differential escaped-edges                          the same as text, for printf's %b
+  differential sample                                 writes a gateway's day on the bench
+  differential books --reader PROGRAM --lines N --seed S [--cuts K] [--batch B]
+                                                      books of B lines, N in all; the edge book at K places
 KIND is decoders, readings, encoder, station, station-long, line or a command's name.";
 
 const USUAL_BATCH: usize = 50_000;
 const USUAL_FRAMES_BATCH: usize = 5_000;
 const USUAL_LINES_RUNS: u64 = 20_000;
 const USUAL_LINES_BATCH: usize = 2_000;
+const USUAL_BOOK_LINES: usize = 10_000;
 const USUAL_SEED: u64 = 62386;
 const DIFFERENT: u8 = 1;
 const MISUSED_OR_BROKEN: u8 = 2;
@@ -112,6 +128,32 @@ fn run(words: &[String]) -> Result<bool, String> {
             options.allow(&["--to"])?;
             let folder = options.text("--to")?;
             store(Path::new(folder)).map_err(|error| format!("{folder}: {error}"))
+        }
+        "reader" => {
+            options.allow(&[])?;
+            quiet_on_closed_pipe(reader::answer_standard_input())
+        }
+        "book" => {
+            options.allow(&["--lines", "--kind", "--seed"])?;
+            let book = Book::new(options.seed()?, options.book_kind()?, options.lines()?);
+            quiet_on_closed_pipe(book.write(&mut BufWriter::new(io::stdout().lock())))
+        }
+        "edges" => {
+            options.allow(&[])?;
+            quiet_on_closed_pipe(io::stdout().lock().write_all(&edges::book()))
+        }
+        "escaped-edges" => {
+            options.allow(&[])?;
+            quiet_on_closed_pipe(io::stdout().lock().write_all(edges::escaped().as_bytes()))
+        }
+        "sample" => {
+            options.allow(&[])?;
+            quiet_on_closed_pipe(io::stdout().lock().write_all(&day::book()))
+        }
+        "books" => {
+            options.allow(&["--reader", "--lines", "--seed", "--cuts", "--batch"])?;
+            let task = options.books_task()?;
+            book_runs::run(&task).map_err(|error| format!("{}: {error}", task.program))
         }
         _ => Err(format!("there is no command {verb}\n{USAGE}")),
     }
@@ -250,6 +292,29 @@ impl<'a> Options<'a> {
             pairs: self.number_or("--pairs", USUAL_LINES_RUNS)? as usize,
             batch: self.batch(USUAL_LINES_BATCH)?,
         })
+    }
+
+    fn books_task(&self) -> Result<book_runs::Task, String> {
+        let cuts = match self.find("--cuts") {
+            Some(text) => Some(Self::number("--cuts", text)? as usize),
+            None => None,
+        };
+        Ok(book_runs::Task {
+            program: self.text("--reader")?.to_string(),
+            seed: self.seed()?,
+            lines: self.lines()?,
+            batch: self.batch(USUAL_BOOK_LINES)?,
+            cuts,
+        })
+    }
+
+    fn lines(&self) -> Result<usize, String> {
+        Self::positive("--lines", self.text("--lines")?)
+    }
+
+    fn book_kind(&self) -> Result<books::Kind, String> {
+        let name = self.text("--kind")?;
+        books::Kind::named(name).ok_or(format!("--kind {name}: no such kind"))
     }
 
     fn number_or(&self, name: &str, usual: u64) -> Result<u64, String> {

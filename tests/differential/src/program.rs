@@ -1,9 +1,11 @@
 //! Another program's run on a script, and where its answers part from those that are expected.
 
 use std::io::{self, Read, Write};
-use std::process::{Child, ChildStdout, Command as Process, ExitStatus, Stdio};
+use std::process::{Child, ChildStdin, ChildStdout, Command as Process, ExitStatus, Stdio};
 use std::sync::Arc;
 use std::thread::{self, JoinHandle};
+
+use crate::pipe::wait_until_taken;
 
 const PAST_EXPECTED: usize = 4096;
 
@@ -28,6 +30,17 @@ impl Run {
         expected: usize,
         errors: Stdio,
     ) -> io::Result<Self> {
+        Self::start_cut(program, script, Vec::new(), expected, errors)
+    }
+
+    /// The script is cut at these places, in their order: what comes after one is written only when the program has read what is before it.
+    pub fn start_cut(
+        program: &str,
+        script: Arc<Vec<u8>>,
+        cuts: Vec<usize>,
+        expected: usize,
+        errors: Stdio,
+    ) -> io::Result<Self> {
         let mut child = Process::new(program)
             .stdin(Stdio::piped())
             .stdout(Stdio::piped())
@@ -37,7 +50,7 @@ impl Run {
         let output = child.stdout.take();
         let writer = thread::spawn(move || {
             // A program that stops reading shows itself by what it doesn't answer.
-            let _ = input.map(|mut pipe| pipe.write_all(&script));
+            let _ = input.map(|pipe| write_cut(pipe, &script, &cuts));
         });
         let reader = thread::spawn(move || match output {
             Some(pipe) => read_at_most(pipe, expected + PAST_EXPECTED),
@@ -56,6 +69,16 @@ impl Run {
         let status = self.child.wait()?;
         Ok(Said { text, status })
     }
+}
+
+fn write_cut(mut pipe: ChildStdin, script: &[u8], cuts: &[usize]) -> io::Result<()> {
+    let mut written = 0;
+    for cut in cuts {
+        pipe.write_all(&script[written..*cut])?;
+        wait_until_taken(&pipe);
+        written = *cut;
+    }
+    pipe.write_all(&script[written..])
 }
 
 /// A program may never stop writing; one that writes more than this finds its pipe closed.
@@ -84,7 +107,11 @@ pub fn first_difference(script: &[u8], answers: &[u8], said: &Said) -> Option<Di
         return other_line;
     }
     Some(Difference {
-        line: script.iter().filter(|byte| **byte == b'\n').count() - 1,
+        line: script
+            .iter()
+            .filter(|byte| **byte == b'\n')
+            .count()
+            .saturating_sub(1),
         expected: b"(every line was answered as expected)".to_vec(),
         told: ended(said).into_bytes(),
     })
