@@ -12,7 +12,7 @@ use Rattle.rx_decode.specs.declared.SniffedFrame.the-variants.{Forward16, Backw
 use Rattle.rx_decode.specs.declared.SniffedDecode.{SniffedDecode}
 
 -- ---- numbers
--- The last digit of a number stands behind the digits of its tenth; a number below ten is its only digit. `most` is how many digits there may be.
+-- The last digit of a number stands behind the digits of its tenth; a number below ten is its only digit. At most so many are written.
 unfoldable pub decimalIn : ℕ → ℕ → List ℕ
 decimalIn zero n = []
 decimalIn (suc most) n = pick (ltb n 10) ((48 + n) ∷ []) (decimalIn most (n / 10) ++ ((48 + n % 10) ∷ []))
@@ -26,7 +26,7 @@ unfoldable pub hexDigit : ℕ → ℕ
 hexDigit n = pick (ltb n 10) (48 + n) (87 + n)
 
 unfoldable pub hexOf : ℕ → List ℕ
-hexOf byte = hexDigit (byte / 16) ∷ (hexDigit (byte % 16) ∷ [])
+hexOf byte = hexDigit (byte / 16) ∷ hexDigit (byte % 16) ∷ []
 
 -- a phase in ticks, a minus (45) in front of one below 0
 unfoldable pub phaseText : ℤ → List ℕ
@@ -36,11 +36,11 @@ phaseText (negsuc n) = 45 ∷ decimalOf (suc n)
 -- ---- kind and data
 -- B8, F16, F24, LEN, FAIL
 unfoldable pub kindText : SniffedFrame → List ℕ
-kindText (Backward8 byte) = 66 ∷ (56 ∷ [])
-kindText (Forward16 word) = 70 ∷ (49 ∷ (54 ∷ []))
-kindText (Forward24 first second third) = 70 ∷ (50 ∷ (52 ∷ []))
-kindText (UnsupportedLength bits) = 76 ∷ (69 ∷ (78 ∷ []))
-kindText DecodeFailed = 70 ∷ (65 ∷ (73 ∷ (76 ∷ [])))
+kindText (Backward8 byte) = 66 ∷ 56 ∷ []
+kindText (Forward16 word) = 70 ∷ 49 ∷ 54 ∷ []
+kindText (Forward24 first second third) = 70 ∷ 50 ∷ 52 ∷ []
+kindText (UnsupportedLength bits) = 76 ∷ 69 ∷ 78 ∷ []
+kindText DecodeFailed = 70 ∷ 65 ∷ 73 ∷ 76 ∷ []
 
 -- a frame's bytes in hex, the first first; another length in decimal; a minus where nothing was read
 unfoldable pub dataText : SniffedFrame → List ℕ
@@ -74,12 +74,12 @@ rowText number decode low silence =
 
 -- number, BAD, refusal
 unfoldable pub badText : ℕ → ℕ → List ℕ
-badText number refusal = decimalOf number ++ tab ++ (66 ∷ (65 ∷ (68 ∷ []))) ++ tab ++ decimalOf refusal ++ lf
+badText number refusal = decimalOf number ++ tab ++ (66 ∷ 65 ∷ 68 ∷ []) ++ tab ++ decimalOf refusal ++ lf
 
 -- END, lines, decoded, refused
 unfoldable pub endText : ℕ → ℕ → ℕ → List ℕ
 endText lines decoded refused =
-    (69 ∷ (78 ∷ (68 ∷ []))) ++ tab ++ decimalOf lines ++ tab ++ decimalOf decoded ++ tab ++ decimalOf refused ++ lf
+    (69 ∷ 78 ∷ 68 ∷ []) ++ tab ++ decimalOf lines ++ tab ++ decimalOf decoded ++ tab ++ decimalOf refused ++ lf
 
 -- ---- into a lent buffer
 -- A line is written at a place of the buffer where the longest of its kind would fit there. Else nothing is written, and the place stays.

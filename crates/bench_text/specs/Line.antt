@@ -38,7 +38,7 @@ allDigits (byte ∷ bytes) = isDigit byte && allDigits bytes
 unfoldable pub isDecimal : List ℕ → Bool
 isDecimal [] = false
 isDecimal (byte ∷ []) = isDigit byte
-isDecimal (byte ∷ (next ∷ rest)) = not (eqb byte 48) && allDigits (byte ∷ (next ∷ rest))
+isDecimal (byte ∷ next ∷ rest) = not (eqb byte 48) && allDigits (byte ∷ next ∷ rest)
 
 -- what the digits come to after those that came to n
 unfoldable pub valueFrom : ℕ → List ℕ → ℕ
@@ -65,14 +65,14 @@ allHex (byte ∷ bytes) = ltb (digitValue byte) 16 && allHex bytes
 unfoldable pub bytesOf : List ℕ → List ℕ
 bytesOf [] = []
 bytesOf (top ∷ []) = []
-bytesOf (top ∷ (low ∷ rest)) = (digitValue top * 16 + digitValue low) ∷ bytesOf rest
+bytesOf (top ∷ low ∷ rest) = (digitValue top * 16 + digitValue low) ∷ bytesOf rest
 
 -- ---- the line
 -- a field that is C alone
 unfoldable pub isC : List ℕ → Bool
 isC [] = false
 isC (byte ∷ []) = eqb byte 67
-isC (byte ∷ (next ∷ rest)) = false
+isC (byte ∷ next ∷ rest) = false
 
 -- A line's fields are C, the silence, the count and the samples.
 abbrev pub fieldAt : List ℕ → ℕ → List ℕ

@@ -14,6 +14,7 @@ use bench_answers::ROW_MAX;
 use bench_text::LINE_MAX;
 use bench_text::LineAnswer;
 use bench_text::Refusal;
+use fsm::DALI_RX_SAMPLE_BUF_LEN;
 use fsm::RxCompletedEvent;
 use rx_decode::SniffedFrame;
 
@@ -214,7 +215,7 @@ fn answer_capture(
     counts: Counts,
     silence: u8,
     count: u8,
-    samples: [u8; 64],
+    samples: [u8; DALI_RX_SAMPLE_BUF_LEN],
     out: &mut [u8],
     at: usize,
 ) -> Ended
@@ -244,7 +245,7 @@ fn answer_capture(
 }
 
 // The capture of a good line, as a station would hand it out.
-fn capture_event(silence: u8, count: u8, samples: [u8; 64]) -> RxCompletedEvent
+fn capture_event(silence: u8, count: u8, samples: [u8; DALI_RX_SAMPLE_BUF_LEN]) -> RxCompletedEvent
     ensures { λ r. ⌜ r ≡ captureOf silence count samples ⌝ }
 {
     let mut event = RxCompletedEvent::new();
