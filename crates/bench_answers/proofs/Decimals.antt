@@ -1,5 +1,5 @@
 -- Laws of decimals: their digits, how many they are, and what they come to. Assumes nothing.
-use mathlib.Core.Bool.{Bool, true, false, _&&_}
+use mathlib.Core.Bool.{true, false}
 use mathlib.Core.List.{List, [], _∷_, _++_}
 use mathlib.Core.Path.{_≡_, refl, sym, ap, _∙_}
 use Prim.Native.Nat.{ℕ, zero, suc, _+_, _*_, _-_, _/_, _%_, _^_, _≤_, _<_}
@@ -15,6 +15,7 @@ use Rattle.laws.specs.Pick.{pick}
 use Rattle.bench_answers.specs.Answer.{decimalIn, decimalOf}
 use Rattle.bench_answers.specs.Code.{digits}
 use Rattle.bench_text.specs.Line.{isDigit, allDigits, isDecimal, valueFrom, valueOf}
+use Rattle.bench_text.proofs.Lines.{both-true}
 
 -- ---- the last digits of a number
 pub length-digits : (count n : ℕ) → length (digits count n) ≡ count
@@ -124,18 +125,10 @@ is-digit : (n : ℕ) → n < 10 → isDigit (48 + n) ≡ true
 unfolding isDigit
 is-digit n h = on-false (le-ltb (48 + n) 48 (omega arith)) _ _ ∙ le-leb (48 + n) 57 (omega arith)
 
-left : (a b : Bool) → a && b ≡ true → a ≡ true
-left true b e = refl
-left false b e = e
-
-right : (a b : Bool) → a && b ≡ true → b ≡ true
-right true b e = e
-right false b e = cc
-
 digits-behind : (digit : ℕ) (text : List ℕ) → isDigit digit ≡ true → allDigits text ≡ true → allDigits (text ++ (digit ∷ [])) ≡ true
 unfolding allDigits
 digits-behind digit [] d e = rw d
-digits-behind digit (byte ∷ text) d e = rw (left (isDigit byte) (allDigits text) e) (digits-behind digit text d (right (isDigit byte) (allDigits text) e))
+digits-behind digit (byte ∷ text) d e = let parts = both-true (isDigit byte) (allDigits text) e in rw (parts .0) (digits-behind digit text d (parts .1))
 
 -- digits of which the first is no 0
 High : List ℕ → Type 0
