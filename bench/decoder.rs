@@ -8,9 +8,12 @@ mod common;
 
 #[path = "../tests/differential/src/original.rs"]
 mod original;
+#[path = "../tests/differential/src/shims.rs"]
+mod shims;
 
-// The unchanged files name each other from the crate's root.
-use original::{fsm, halfbits, manchester, phy, platform, rx_decode};
+// The unchanged files name each other, and the shims, from the crate's root.
+use original::{fsm, manchester, phy, rx_decode};
+use shims::{halfbits, platform};
 
 use common::{ratios, Random, ROUNDS};
 use fsm::RxCompletedEvent;

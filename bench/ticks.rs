@@ -24,34 +24,13 @@ mod fsm {
     }
 }
 
-/// Stands for the half-bit store's file.
-mod halfbits {
-    pub struct HalfBitBuffer {
-        pub data: [u8; Self::DATA_LEN],
-        pub length: u8,
-    }
-
-    impl HalfBitBuffer {
-        pub const DATA_LEN: usize = 7;
-        pub const MAX_DATA_HALF_BITS: u8 = 54;
-    }
-}
-
-/// Stands for the platform crate.
-mod platform {
-    pub mod hal {
-        pub trait BitbangHal {
-            fn bus_is_high(&mut self) -> bool;
-            fn bus_set_high(&mut self);
-            fn bus_set_low(&mut self);
-        }
-    }
-}
+#[path = "../tests/differential/src/shims.rs"]
+mod shims;
 
 use common::{ratios, Random, ROUNDS};
 use fsm::{BusState, DaliBitbangPhy};
-use halfbits::HalfBitBuffer;
-use platform::hal::BitbangHal;
+use shims::halfbits::{self, HalfBitBuffer};
+use shims::platform::{self, hal::BitbangHal};
 
 const LEVELS: usize = 4_096;
 const PASSES: u32 = 1_000;

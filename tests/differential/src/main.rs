@@ -29,6 +29,7 @@ mod pipe;
 mod program;
 mod random;
 mod reader;
+mod shims;
 mod shrink;
 mod stated;
 mod station;
@@ -40,7 +41,8 @@ mod stored_readings;
 mod stored_station;
 
 // The unchanged files name each other from the crate's root.
-use original::{fsm, halfbits, manchester, phy, platform};
+use original::{fsm, manchester, phy};
+use shims::{halfbits, platform};
 
 use std::io::{self, BufRead, BufWriter, Write};
 use std::path::Path;
