@@ -1,7 +1,6 @@
 -- Any two results that meet a public promise of this crate are equal. `Post` is the promise itself, as the check reads it from the source.
 -- Assumes nothing.
-use mathlib.Core.Path.{sym, _∙_}
-use Rattle.laws.proofs.Only.{Only, named}
+use Rattle.laws.proofs.Only.{Only, named, named-and}
 use Rattle.fsm.proofs.settle_ticks_on_wire.Reads as settle-ticks-on-wire
 use Rattle.fsm.proofs.restart_gate_for.Reads as restart-gate-for
 use Rattle.fsm.proofs.RxCompletedEvent.new.Reads as new-event
@@ -44,10 +43,10 @@ pub tick-sole : (κs : _) (a : _) (x : _) → Only (λ r. tick.Post κs a r x)
 tick-sole κs a x = named _
 
 pub start-tx-sole : (κs : _) (a : _) (x : _) → Only (λ r. start-tx.Post κs a r x)
-start-tx-sole κs a x = λ r s p q. p .0 ∙ sym (q .0)
+start-tx-sole κs a x = named-and _ _
 
 pub start-answer-sole : (κs : _) (a : _) (x : _) → Only (λ r. start-answer.Post κs a r x)
-start-answer-sole κs a x = λ r s p q. p .0 ∙ sym (q .0)
+start-answer-sole κs a x = named-and _ _
 
 pub bus-state-sole : (κs : _) (a : _) (x : _) → Only (λ r. bus-state.Post κs a r x)
 bus-state-sole κs a x = named _
@@ -56,7 +55,7 @@ pub line-debouncing-sole : (κs : _) (a : _) (x : _) → Only (λ r. line-deboun
 line-debouncing-sole κs a x = named _
 
 pub poll-tx-state-sole : (κs : _) (a : _) (x : _) → Only (λ r. poll-tx-state.Post κs a r x)
-poll-tx-state-sole κs a x = λ r s p q. p .0 ∙ sym (q .0)
+poll-tx-state-sole κs a x = named-and _ _
 
 pub take-idle-after-break-sole : (κs : _) (a : _) (x : _) → Only (λ r. take-idle-after-break.Post κs a r x)
 take-idle-after-break-sole κs a x = named _

@@ -5,6 +5,14 @@ use mathlib.Core.Path.{_≡_, sym, _∙_}
 abbrev pub Only : {A : Type 0} → (A → Type 0) → Type 0
 Only {A} P = (r s : A) → P r → P s → r ≡ s
 
+-- what both equal one thing are equal
+pub alike : {A : Type 0} {r s x : A} → r ≡ x → s ≡ x → r ≡ s
+alike p q = p ∙ sym q
+
 -- a promise that names the result leaves one
 pub named : {A : Type 0} (x : A) → Only (λ (r : A). r ≡ x)
-named x r s p q = p ∙ sym q
+named x r s p q = alike p q
+
+-- and so does one that says more of it
+pub named-and : {A : Type 0} (x : A) (More : A → Type 0) → Only (λ (r : A). (r ≡ x) × More r)
+named-and x More r s p q = alike (p .0) (q .0)
