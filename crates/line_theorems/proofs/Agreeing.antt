@@ -65,7 +65,7 @@ module _ (bits : List Bool) where
   pub last-complete : completeAt bits ≤ 8 * length bits + 28
   last-complete = omega (arith, complete-is, lowIn-bounds (bitOf bits (length bits)))
 
-  pub whole : (t : ℕ) → completeAt bits ≤ 4 + t → Whole bits t
+  whole : (t : ℕ) → completeAt bits ≤ 4 + t → Whole bits t
   whole t h =
       let e : t ≡ suc (lastLow bits) + (t - suc (lastLow bits)) = omega (arith, complete-is) in
       let highs = highs-all (levelAt bits) (lastLow bits) (last-falls bits) (t - suc (lastLow bits)) (λ k p. after-last bits k) in

@@ -9,4 +9,3 @@ pub mod LoneSender
 pub mod Clashing
 pub mod TwoSenders
 pub mod Shown
-pub mod BenchRows

@@ -2,20 +2,16 @@
 use Prim.Native.Nat.{ℕ, zero, suc, _<_, _≤_, min}
 use native.Mathlib.Omega.{arith}
 use native.Mathlib.Decide.{ℕ-discrete}
-use mathlib.Core.Bool.{true, false, false≢true}
+use mathlib.Core.Bool.{true, false≢true}
 use mathlib.Core.Path.{_≡_, refl, sym, _∙_, ap, subst}
 use lib.Dec.{eqb}
 use lib.ListN.{length}
 use lib.Seq.{getD-set-same, getD-set-other}
 use borrow.Author.Tests.{lt-ltb}
-use Rattle.laws.specs.Packed.{packed}
 use Rattle.laws.specs.Pick.{pick}
-use Rattle.laws.specs.Tabulate.{tabulate}
 use Rattle.laws.proofs.Picked.{on-true}
-use Rattle.halfbits.specs.Frame.{Frame, bytesOf, bitAt, bitsOf, AreBytes, frameBits}
-use Rattle.halfbits.specs.Wave.{bitWave, bitWaves, waveOf, levelAt}
-use Rattle.halfbits.specs.HalfBits.{pulls, storeOf, bufferOf}
-use Rattle.halfbits.specs.Encoding.{isBitCount, frameOf, encodedOf}
+use Rattle.halfbits.specs.Frame.{Frame, bytesOf, AreBytes, frameBits}
+use Rattle.halfbits.specs.Encoding.{isBitCount, frameOf}
 use Rattle.machine.specs.declared.CollisionPolicy.{CollisionPolicy}
 use Rattle.machine.specs.declared.CollisionPolicy.the-variants.{Auto, Off, On}
 use Rattle.machine.specs.Sending.{watchesOf}
@@ -30,13 +26,12 @@ use Rattle.bench_line.specs.Line.{stationsOn, stationAt, withStation, newLine}
 use Rattle.bench_line.specs.Refusals.{isCount}
 use Rattle.bench_line.specs.Calls.{changedAt}
 use Rattle.frames.specs.Ticks.{IsIdle}
-use Rattle.frames.specs.Sends.{Start, by-start-tx, by-start-answer}
+use Rattle.frames.specs.Sends.{Start, by-start-answer}
 use Rattle.line_theorems.specs.Reached.{lineAfter, policy, ReachedLine, new-line, called}
 use Rattle.line_theorems.specs.OnLine.{frameIn, HoldsFrame, ticksOn, AllIdle, Sender, bufferIn, IsSender, startedOn}
 use Rattle.line_theorems.specs.LoneSender.{Alone, completeAt}
-use Rattle.line_theorems.specs.TwoSenders.{Watches, Pair, bothOn, Agreed, pullsIn, FirstDifference, Clashed}
+use Rattle.line_theorems.specs.TwoSenders.{Watches, Pair, bothOn, Agreed, pullsIn, Clashed}
 use Rattle.line_theorems.specs.Clash.{clashAt, Breaks}
-use Rattle.line_theorems.specs.BenchRows.{zeros, eighty, ClashRow}
 use Rattle.line_theorems.proofs.Lines.{line-invariants}
 use Rattle.line_theorems.proofs.Hearing.{ticks-reached, same-count}
 use Rattle.line_theorems.proofs.Starting.{same-stations, reached-on}
@@ -64,7 +59,7 @@ pub new-all-idle : (count : ℕ) → AllIdle (newLine count)
 unfolding newStation newCore
 new-all-idle count n on = subst (λ (s : DaliBitbangPhy). IsIdle s) (sym (new-station-at count n)) refl
 
-two-reached : ReachedLine (newLine 2)
+pub two-reached : ReachedLine (newLine 2)
 unfolding isCount pick
 two-reached = new-line 2 refl
 
@@ -76,7 +71,7 @@ four-reached = new-line 4 refl
 abbrev sends-8 : ℕ → Start → ℕ → Sender
 sends-8 number by first = record { number = number; by = by; bits = 8; first = first; second = 0; third = 0 }
 
-abbrev sends-16 : ℕ → Start → ℕ → ℕ → Sender
+abbrev pub sends-16 : ℕ → Start → ℕ → ℕ → Sender
 sends-16 number by first second = record { number = number; by = by; bits = 16; first = first; second = second; third = 0 }
 
 abbrev sends-24 : ℕ → Start → ℕ → ℕ → ℕ → Sender
@@ -106,7 +101,7 @@ module _ (l : BenchLine) where
   unfolding isBitCount pick
   is-8 n by x on h = record { on = on; counts = refl; are-bytes = are-1 x h }
 
-  is-16 : (n : ℕ) (by : Start) (x y : ℕ) → n < stationsOn l → x < 256 → y < 256 → IsSender l (sends-16 n by x y)
+  pub is-16 : (n : ℕ) (by : Start) (x y : ℕ) → n < stationsOn l → x < 256 → y < 256 → IsSender l (sends-16 n by x y)
   unfolding isBitCount pick
   is-16 n by x y on h k = record { on = on; counts = refl; are-bytes = are-2 x y h k }
 
@@ -120,43 +115,12 @@ unfolding newLine
 new-line-hears x y z h k m by = lone-sender (newLine 4) four-reached (new-all-idle 4) (sends-24 2 by x y z) (is-24 (newLine 4) 2 by x y z (omega arith) h k m)
 
 -- ---- two senders on a new line
-watching : (count : ℕ) (a : Sender) → pick (eqb (a .bits) 16) true (eqb (a .bits) 24) ≡ true → Watches (newLine count) a
+pub watching : (count : ℕ) (a : Sender) → pick (eqb (a .bits) 16) true (eqb (a .bits) 24) ≡ true → Watches (newLine count) a
 unfolding newStation newCore
 watching count a long = record {
   long = long;
   not-off = λ off. auto-not-off (sym (ap (λ (s : DaliBitbangPhy). s .core .«collision_policy») (new-station-at count (a .number))) ∙ off);
 }
-
-row-pair : Pair (newLine 2) zeros eighty
-unfolding newLine pick
-row-pair = record {
-  one = is-16 (newLine 2) 0 by-start-tx 0 0 (omega arith) (omega arith) (omega arith);
-  other = is-16 (newLine 2) 1 by-start-tx 128 0 (omega arith) (omega arith) (omega arith);
-  one-watches = watching 2 zeros refl;
-  other-watches = watching 2 eighty refl;
-  apart = λ e. let none : ⊥ = omega (arith, e) in none;
-}
-
--- both stores, as far as it matters: the start, the bit in which they differ, and what follows
-as-written : (pullsIn (bufferIn zeros) 0 ≡ pullsIn (bufferIn eighty) 0) × (pullsIn (bufferIn zeros) 1 ≡ pullsIn (bufferIn eighty) 1)
-    × (pullsIn (bufferIn zeros) 2 ≡ false) × (pullsIn (bufferIn eighty) 2 ≡ true) × (pullsIn (bufferIn eighty) 3 ≡ false)
-unfolding pullsIn encodedOf isBitCount frameOf bufferOf storeOf tabulate packed pulls levelAt waveOf bitWaves bitWave bitsOf bytesOf bitAt pick
-as-written = (refl, refl, refl, refl, refl)
-
-differ-at-2 : FirstDifference (bufferIn zeros) (bufferIn eighty) 2
-differ-at-2 = record { same = before; differs = λ e. false≢true (sym (as-written .2) ∙ e ∙ as-written .3) }
-  where
-    before : (i : ℕ) → i < 2 → pullsIn (bufferIn zeros) i ≡ pullsIn (bufferIn eighty) i
-    before zero h = as-written .0
-    before (suc zero) h = as-written .1
-    before (suc (suc i)) h = absurd (let none : ⊥ = omega arith in none)
-
-pub zeros-against-eighty : ClashRow
-unfolding pick
-zeros-against-eighty =
-    let (_, _, releases, pulls, next) = as-written in
-    let (one, other) = clash-ticks (newLine 2) two-reached (new-all-idle 2) zeros eighty row-pair 2 differ-at-2 in
-    (rw releases at one, rw (pulls, next) at other)
 
 -- as many bytes as a frame has
 bytes-in : Frame → ℕ

@@ -4,4 +4,3 @@ pub mod OnLine
 pub mod LoneSender
 pub mod TwoSenders
 pub mod Clash
-pub mod BenchRows

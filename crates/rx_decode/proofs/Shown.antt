@@ -1,6 +1,4 @@
--- Readings that antt computes: document 01's two rows on a held line, and two captures of no frame's wave that are read as frames
--- (docs/DIFFERENCES.md). Assumes nothing.
-use mathlib.Core.Bool.{true, false}
+-- Readings that antt computes: two captures of no frame's wave that are read as frames (docs/DIFFERENCES.md). Assumes nothing.
 use mathlib.Core.Path.{_≡_, refl}
 use mathlib.Core.List.{List, [], _∷_, _++_}
 use Prim.Native.Nat.{ℕ, _-_}
@@ -8,7 +6,6 @@ use lib.IntN.{pos}
 use lib.ListN.{length, replicate}
 use Rattle.laws.specs.Packed.{packed}
 use Rattle.laws.specs.Pick.{pick}
-use Rattle.laws.specs.Tabulate.{tabulate}
 use Rattle.lengths.specs.Lengths.{holds, setOf, withLengths, withLength, sniffedLengths}
 use Rattle.weight.specs.Weight.{weightOf, folded, halfWeight, bitWeight}
 use Rattle.window.specs.Window.{windowOf, tickAt, levelBefore, peekAt}
@@ -17,21 +14,11 @@ use Rattle.search.specs.Search.{acceptedOf, firstOf, endedOf, scannedOf, scanPh
 use Rattle.fsm.specs.Station.{lastRxOf, eventOf}
 use Rattle.fsm.specs.declared.RxCompletedEvent.{RxCompletedEvent}
 use Rattle.rx_decode.specs.declared.SniffedFrame.the-variants.{Backward8}
-use Rattle.rx_decode.specs.Reading.{byteOf, frameOf, sniffedOf, searchedIn, foundOr, foundIn, ticksOf, lowsFirst, longestLow, heldOf}
+use Rattle.rx_decode.specs.Reading.{byteOf, frameOf, sniffedOf, searchedIn, foundOr, foundIn}
 
 -- the event of a capture of these bytes
 abbrev captured : List ℕ → RxCompletedEvent
 captured bytes = eventOf (lastRxOf (bytes ++ replicate (64 - length bytes) 0) (length bytes) 0 0)
-
-abbrev held : RxCompletedEvent
-held = captured (0x00 ∷ 0x00 ∷ 0x00 ∷ [])
-
-abbrev notHeld : RxCompletedEvent
-notHeld = captured (0x00 ∷ 0x00 ∷ 0x01 ∷ [])
-
-pub held-at-24 : (heldOf held ≡ true) × (heldOf notHeld ≡ false)
-unfolding eventOf ticksOf tabulate longestLow lowsFirst pick
-held-at-24 = (refl, refl)
 
 -- a clean wave of the nine bits 100000001
 abbrev nineBits : RxCompletedEvent
