@@ -129,7 +129,7 @@ module _ (all : List ℕ) where
       go false e =
           let s : storedOf (suc n + 1) ≡ suc n = omega (arith, ltb-false 64 (suc n) e) in
           let d : storedOf (suc n) ≡ n = omega (arith, ltb-false 64 (suc n) e) in
-          rw (on-false e, s, ev, d, ex, add-one n)
+          rw (on-false e, s, ev, d, ex) (ap (λ (j : ℕ). packed 2 n (dataBit all) * 2 + getD all j 0 % 2) (sym (add-one n)))
 
   pushed-all : (rest : List ℕ) (len v : ℕ) → drop len all ≡ rest → len ≤ length all → v ≡ packed 2 (storedOf len) (dataBit all)
       → pushAll len v rest ≡ packed 2 (storedBits all) (dataBit all)

@@ -21,13 +21,15 @@ returns-2 : tie.Need-returns-2
 unfolding strideOf
 returns-2 c = let a = c .before .before .before .args in
     let h : a .late ≤ max (a .centre) (a .early) = omega arith in
-    rw (on-false (le-ltb _ _ h), on-true (lt-ltb _ _ (c .if2 .taken)))
+    let over : a .centre < a .early = omega arith in
+    rw (on-false (le-ltb _ _ h), on-true (lt-ltb _ _ over))
 
 returns-3 : tie.Need-returns-3
 unfolding strideOf
 returns-3 c = let a = c .before .before .before .args in
     let h : a .late ≤ max (a .centre) (a .early) = omega arith in
-    rw (on-false (le-ltb _ _ h), on-false (le-ltb _ _ (c .if2 .left)))
+    let under : a .early ≤ a .centre = omega arith in
+    rw (on-false (le-ltb _ _ h), on-false (le-ltb _ _ under))
 
 pub stride-spec : {M : Type 1} → statement M
 stride-spec = tie.close (tie.spec larger-requires returns returns-2 returns-3)
