@@ -28,7 +28,7 @@ length-kind (Forward24 first second third) = omega arith
 length-kind (UnsupportedLength bits) = omega arith
 length-kind DecodeFailed = omega arith
 
-length-phase : (z : ℤ) → mag z < 128 → length (phaseText z) ≤ 4
+pub length-phase : (z : ℤ) → mag z < 128 → length (phaseText z) ≤ 4
 unfolding phaseText
 length-phase (pos n) h = let small : n < 1000 = omega arith in omega (arith, length-decimal 10 2 n small)
 length-phase (negsuc n) h = let small : suc n < 1000 = omega arith in omega (arith, length-decimal 10 2 (suc n) small)

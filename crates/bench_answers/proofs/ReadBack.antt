@@ -69,7 +69,7 @@ hexes-back (b ∷ s) h =
     let whole : b / 16 * 16 + b % 16 ≡ b = omega arith in
     rw (top-back b (h 0), low-back b (h 0), whole, hexes-back s (λ i. h (suc i)))
 
-hexes-length : (s : List ℕ) → length (hexesOf s) ≡ 2 * length s
+pub hexes-length : (s : List ℕ) → length (hexesOf s) ≡ 2 * length s
 unfolding hexesOf hexOf
 hexes-length [] = refl
 hexes-length (b ∷ s) = omega (arith, hexes-length s)

@@ -3,10 +3,11 @@ use mathlib.Core.Bool.{Bool, true, false, not}
 use mathlib.Core.List.{List, [], _∷_, _++_, append-assoc}
 use mathlib.Core.Path.{_≡_, sym, ap, _∙_}
 use Prim.Native.Nat.{ℕ, suc, _+_, _-_, _/_, _%_, _≤_, _<_}
+use native.Mathlib.Decide.{decLt}
 use native.Mathlib.Nat.{add-zero}
 use native.Mathlib.Numerals.{add-one}
 use native.Mathlib.Omega.{arith}
-use borrow.Author.Tests.{leb-true, not-true, not-false}
+use borrow.Author.Tests.{le-leb, lt-leb, leb-true, not-true, not-false}
 use lib.Dec.{leb}
 use lib.ListN.{length, getD, drop, set, length-append, drop-of-length-le}
 use lib.Seq.{sets, set-comm, drop-cons}
@@ -41,7 +42,7 @@ pub copy-end : (buffer text all : List ℕ) (place i : ℕ) → length text ≤ 
 copy-end buffer text all place i h e = ap (sets buffer (place + i)) (sym (drop-of-length-le text h)) ∙ e
 
 -- ---- a run that is stored from its end
-sets-back : (buffer : List ℕ) (place digit : ℕ) (text : List ℕ) → sets (set buffer (place + length text) digit) place text ≡ sets buffer place (text ++ (digit ∷ []))
+pub sets-back : (buffer : List ℕ) (place digit : ℕ) (text : List ℕ) → sets (set buffer (place + length text) digit) place text ≡ sets buffer place (text ++ (digit ∷ []))
 sets-back buffer place digit [] = ap (λ (k : ℕ). set buffer k digit) (add-zero place)
 sets-back buffer place digit (byte ∷ text) =
     let e : place + suc (length text) ≡ suc place + length text = omega arith in
@@ -76,6 +77,13 @@ unfolding endText fieldText
 end-parts lines decoded refused = simp append-assoc
 
 -- ---- a line in a lent buffer
+pub without : (a b n : ℕ) → b ≤ n → leb a (n - b) ≡ leb (a + b) n
+without a b n h = split (decLt (n - b) a)
+  where
+    split : Dec (n - b < a) → leb a (n - b) ≡ leb (a + b) n
+    split (yes over) = lt-leb a (n - b) over ∙ sym (lt-leb (a + b) n (omega arith))
+    split (no within) = le-leb a (n - b) (omega arith) ∙ sym (le-leb (a + b) n (omega arith))
+
 pub is-room : {room fits : Bool} → room ≡ fits → not room ≡ false → fits ≡ true
 is-room {room} e t = sym e ∙ not-false room t
 

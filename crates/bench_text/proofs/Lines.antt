@@ -164,7 +164,7 @@ places-on i n d h l = rw (add-one i, pow-suc) (omega arith)
 pub places-≤ : (i j n : ℕ) → i ≤ j → n < 10 ^ i → n < 10 ^ j
 places-≤ i j n h l = let more : 10 ^ i ≤ 10 ^ j = pow-le-pow-right {n = 10} (omega arith) h in omega arith
 
-value-≥ : (n : ℕ) (s : List ℕ) → n ≤ valueFrom n s
+pub value-≥ : (n : ℕ) (s : List ℕ) → n ≤ valueFrom n s
 unfolding valueFrom
 value-≥ n [] = omega arith
 value-≥ n (d ∷ s) = let more : n * 10 + (d - 48) ≤ valueFrom (n * 10 + (d - 48)) s = value-≥ (n * 10 + (d - 48)) s in omega arith
@@ -183,24 +183,24 @@ four-places (a ∷ (b ∷ (c ∷ (d ∷ s)))) h e =
     let grown = value-≥ ((((0 + (a - 48)) * 10 + (b - 48)) * 10 + (c - 48)) * 10 + (d - 48)) s in
     omega arith
 
-decimal-is : (s : List ℕ) → (length s ≡ 0 → ⊥) → (1 < length s → getD s 0 0 ≡ 48 → ⊥) → isDecimal s ≡ allDigits s
+pub decimal-is : (s : List ℕ) → (length s ≡ 0 → ⊥) → (1 < length s → getD s 0 0 ≡ 48 → ⊥) → isDecimal s ≡ allDigits s
 unfolding isDecimal allDigits
 decimal-is [] some lead = absurd (some refl)
 decimal-is (a ∷ []) some lead = sym (and-true (isDigit a))
 decimal-is (a ∷ (b ∷ s)) some lead = rw (ne-eqb a 48 (lead (omega arith)))
 
-not-digits : (s : List ℕ) → allDigits s ≡ false → isDecimal s ≡ false
+pub not-digits : (s : List ℕ) → allDigits s ≡ false → isDecimal s ≡ false
 unfolding isDecimal allDigits
 not-digits [] e = refl
 not-digits (a ∷ []) e = sym (and-true (isDigit a)) ∙ e
 not-digits (a ∷ (b ∷ s)) e = rw e (and-false (not (eqb a 48)))
 
-no-decimal : (s : List ℕ) → length s ≡ 0 → isDecimal s ≡ false
+pub no-decimal : (s : List ℕ) → length s ≡ 0 → isDecimal s ≡ false
 unfolding isDecimal
 no-decimal [] e = refl
 no-decimal (a ∷ s) e = absurd (omega (arith, e))
 
-zero-first : (s : List ℕ) → 1 < length s → getD s 0 0 ≡ 48 → isDecimal s ≡ false
+pub zero-first : (s : List ℕ) → 1 < length s → getD s 0 0 ≡ 48 → isDecimal s ≡ false
 unfolding isDecimal
 zero-first [] h e = absurd (omega (arith, h))
 zero-first (a ∷ []) h e = absurd (omega (arith, h))
@@ -277,7 +277,7 @@ bytes-pair top low rest = refl
 
 -- a turn of the loop over the pairs of digits
 module _ (h : List ℕ) (i : ℕ) (more : 2 * i + 1 < length h) where
-  hex-pair : allHex (drop (2 * i) h)
+  pub hex-pair : allHex (drop (2 * i) h)
       ≡ (ltb (digitValue (getD h (2 * i) 0)) 16 && (ltb (digitValue (getD h (2 * i + 1) 0)) 16 && allHex (drop (2 * (i + 1)) h)))
   unfolding allHex
   hex-pair = rw (pair h i more)

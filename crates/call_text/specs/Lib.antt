@@ -1,0 +1,5 @@
+pub mod Bounds
+pub mod Code
+pub mod Fields
+pub mod Values
+pub mod Writing
