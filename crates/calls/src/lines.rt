@@ -3,12 +3,11 @@ ghost use mathlib.Core.Path.{_≡_};
 ghost use Prim.Native.Nat.{_≤_};
 ghost use lib.ListN.{length};
 ghost use Rattle.calls.specs.Bounds.{Sound, Room};
-use crate::answer::ANSWERS_ROOM;
-use crate::answer::Answers;
-use crate::commands;
-use crate::commands::ANSWER_MAX;
-use crate::commands::Kept;
-use crate::commands::LINE_MAX;
+use call_commands::ANSWER_MAX;
+use call_commands::Kept;
+use call_commands::LINE_MAX;
+use call_text::answer::ANSWERS_ROOM;
+use call_text::answer::Answers;
 use libc::STDOUT_FILENO;
 
 // Where a line waits for its LF: one byte more than a line may have, so that a line too long is known by its length.
@@ -100,7 +99,7 @@ impl Session {
         let roomy = self.make_room(out);
         let text: &[u8] = line;
         let len = roomy.len;
-        let answered = commands::answer(&text[..len], roomy.kept, out, roomy.at);
+        let answered = call_commands::answer(&text[..len], roomy.kept, out, roomy.at);
         let kept = answered.kept;
         Session {
             kept,

@@ -1,27 +1,12 @@
 // The call protocol of document 04 over the proved functions: a command a line on standard input, an answer a line on standard
-// output. Here bytes are only moved: `lines` cuts them into lines, `commands` answers a line.
-mod answer;
-mod bench;
-mod bench_reports;
-mod commands;
-mod decoders;
-mod encoder;
-mod fields;
-mod kept_search;
+// output. Here bytes are only moved: `lines` cuts them into lines, `call_commands` answers a line.
 mod lines;
-mod operands;
-mod readings;
-mod reports;
-mod results;
-mod station;
-mod ticks;
-mod values;
 
 ghost use Rattle.calls.specs.Bounds.{Sound};
-use crate::answer::Answers;
 use crate::lines::LINE_ROOM;
 use crate::lines::Line;
 use crate::lines::Session;
+use call_text::answer::Answers;
 use libc::STDIN_FILENO;
 
 // What one read may bring.
