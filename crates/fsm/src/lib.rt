@@ -5,7 +5,7 @@ ghost use Prim.Native.Nat.{_+_, _-_, min};
 ghost use lib.Dec.{eqb};
 ghost use lib.ListN.{set};
 ghost use Rattle.machine.specs.Sampling.{finished};
-ghost use Rattle.fsm.specs.Station.{eventOf, newEvent, newStation};
+ghost use Rattle.fsm.specs.Station.{eventOf, newCore, newEvent, newStation};
 ghost use Rattle.fsm.specs.Receiving.{filled, finishedRx, storedRx};
 ghost use Rattle.fsm.specs.Ticking.{ticked};
 ghost use Rattle.fsm.specs.Refusals.{numberOf, startNumber};
@@ -254,52 +254,66 @@ fn length_fits(length: u8) -> bool
     length <= HalfBitBuffer::MAX_DATA_HALF_BITS
 }
 
+// Idle, with the line released and no low tick remembered.
+fn new_bus() -> Bus
+    ensures { λ r. ⌜ r ≡ newCore .bus ⌝ }
+{
+    Bus {
+        idlecnt: 0,
+        bus_state: BusState::Idle,
+        rx_debounce: 0,
+        driven_high: true,
+        tx_busy: false,
+    }
+}
+
+// A new station without its arrays.
+fn new_core() -> Core
+    ensures { λ r. ⌜ r ≡ newCore ⌝ }
+{
+    let runs = Runs {
+        high_run_ticks: 0,
+        low_run_ticks: 0,
+    };
+    let bus = new_bus();
+    let rx = Rx {
+        rx_pos: 0,
+        rx_byte: 0,
+        rx_bit_cnt: 0,
+        rx_idle: 0,
+        rx_pre_idle: 0,
+    };
+    let told = Told {
+        tx_pre_idle: 0,
+        rx_state: RxState::Empty,
+        tx_collision: 0,
+        tx_idle_after_break: false,
+        tx_yielded: false,
+    };
+    let tx = Tx {
+        tx_hb_cnt: 0,
+        tx_sp_cnt: 0,
+        tx_high: 0,
+        tx_armed: 0,
+        tx_answer: false,
+    };
+    Core {
+        runs,
+        bus,
+        rx,
+        told,
+        tx,
+        collision_policy: CollisionPolicy::Auto,
+    }
+}
+
 impl DaliBitbangPhy {
     pub const RX_BUF_SIZE: usize = DALI_RX_SAMPLE_BUF_LEN;
 
     pub fn new() -> DaliBitbangPhy
         ensures { λ r. ⌜ r ≡ newStation ⌝ }
     {
-        let runs = Runs {
-            high_run_ticks: 0,
-            low_run_ticks: 0,
-        };
-        let bus = Bus {
-            idlecnt: 0,
-            bus_state: BusState::Idle,
-            rx_debounce: 0,
-            driven_high: true,
-            tx_busy: false,
-        };
-        let rx = Rx {
-            rx_pos: 0,
-            rx_byte: 0,
-            rx_bit_cnt: 0,
-            rx_idle: 0,
-            rx_pre_idle: 0,
-        };
-        let told = Told {
-            tx_pre_idle: 0,
-            rx_state: RxState::Empty,
-            tx_collision: 0,
-            tx_idle_after_break: false,
-            tx_yielded: false,
-        };
-        let tx = Tx {
-            tx_hb_cnt: 0,
-            tx_sp_cnt: 0,
-            tx_high: 0,
-            tx_armed: 0,
-            tx_answer: false,
-        };
-        let core = Core {
-            runs,
-            bus,
-            rx,
-            told,
-            tx,
-            collision_policy: CollisionPolicy::Auto,
-        };
+        let core = new_core();
         let tx_hb = TxHb {
             tx_hb_data: [0; HalfBitBuffer::DATA_LEN],
             tx_hb_len: 0,

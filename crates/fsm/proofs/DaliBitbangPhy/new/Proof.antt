@@ -1,12 +1,15 @@
 -- `fsm::DaliBitbangPhy::new` meets its contract. Assumes nothing.
-use mathlib.Core.Path.{refl}
-use Rattle.fsm.specs.Station.{newStation, newCore}
+use borrow.Author.Needs.{needs}
+use Rattle.fsm.specs.Station.{newStation}
 use Rattle.fsm.proofs.DaliBitbangPhy.new.Statement.{statement}
 use Rattle.fsm.proofs.DaliBitbangPhy.new.Tie as tie
 
+new-core-requires : tie.Need-new-core-requires
+new-core-requires c κs = search needs
+
 returns : tie.Need-returns
-unfolding newStation newCore
-returns c = refl
+unfolding newStation
+returns c = simp (c .new-core .ensures)
 
 pub new-spec : {M : Type 1} → statement M
-new-spec = tie.close (tie.spec returns)
+new-spec = tie.close (tie.spec new-core-requires returns)
