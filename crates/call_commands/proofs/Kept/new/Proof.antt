@@ -1,16 +1,10 @@
 -- `call_commands::Kept::new` meets its contract. Assumes nothing.
-use mathlib.Core.Path.{_≡_, refl}
 use borrow.Author.Needs.{needs}
 use Rattle.laws.specs.Pick.{pick}
 use Rattle.bench_line.specs.Calls.{madeLine}
-use Rattle.bench_line.specs.Line.{newLine}
 use Rattle.bench_line.specs.Refusals.{isCount}
 use Rattle.call_commands.proofs.Kept.new.Statement.{statement}
 use Rattle.call_commands.proofs.Kept.new.Tie as tie
-
-made-one : madeLine 1 .line ≡ newLine 1
-unfolding madeLine isCount pick
-made-one = refl
 
 new-requires : tie.Need-new-requires
 new-requires c κs = search needs
@@ -28,7 +22,8 @@ new-requires-3 : tie.Need-new-requires-3
 new-requires-3 c κs = search needs
 
 returns : tie.Need-returns
-returns c = simp (c .before .new2 .ensures, c .new3 .ensures, c .before .before .of .ensures .0, c .before .before .before .before .before .new .ensures .0, made-one)
+unfolding madeLine isCount pick
+returns c = rw (c .before .new2 .ensures, c .new3 .ensures, c .before .before .of .ensures .0, c .before .before .before .before .before .new .ensures .0)
 
 pub new-spec : {M : Type 1} → statement M
 new-spec =
