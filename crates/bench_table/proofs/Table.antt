@@ -2,7 +2,7 @@
 use Prim.Native.Nat.{ℕ, zero, suc, _+_}
 use native.Mathlib.Omega.{arith}
 use native.Mathlib.Decide.{ℕ-discrete}
-use mathlib.Core.Bool.{Bool, true, false}
+use mathlib.Core.Bool.{true, false}
 use mathlib.Core.List.{List, [], _∷_}
 use mathlib.Core.Path.{_≡_, refl, _∙_, ap}
 use lib.Dec.{leb}
@@ -12,7 +12,7 @@ use borrow.Author.Tests.{le-leb, ne-eqb}
 use Rattle.laws.specs.Packed.{packed}
 use Rattle.laws.specs.Pick.{pick}
 use Rattle.laws.specs.Tabulate.{tabulate}
-use Rattle.laws.proofs.Picked.{on-true}
+use Rattle.laws.proofs.Picked.{on-true, on-either}
 use Rattle.weight.specs.Weight.{weightOf, folded, halfWeight, bitWeight}
 use Rattle.lengths.specs.Lengths.{holds, setOf, withLengths, withLength, sniffedLengths, listed}
 use Rattle.lengths.proofs.Member.{member}
@@ -70,11 +70,6 @@ unfolding Says tookRx
 none-of-one-low highs = let e : 1 + highs ≡ suc highs = omega arith in rw (e, waits highs .1)
 
 -- ---- a lone start bit
-either : (t : Bool) {A : Type 0} (a : A) → pick t a a ≡ a
-unfolding pick
-either true a = refl
-either false a = refl
-
 module _ (behind : List ℕ) (most : ℕ) where
   abbrev start : SampleWindow
   start = windowOf (0x0F ∷ 0xFF ∷ 0xFF ∷ behind) 3
@@ -90,7 +85,7 @@ module _ (behind : List ℕ) (most : ℕ) where
   lone =
       one-bit .0
       ∙ on-true (le-leb 0 most (omega arith)) (after 25 (bitsFrom 72 start most (pos 0) 9 1)) (bits [])
-      ∙ ap (after 25) (one-bit .1 ∙ either (leb 1 most) (bits []))
+      ∙ ap (after 25) (one-bit .1 ∙ on-either (leb 1 most) (bits []))
 
 lone-start : Says (reads-at-phase-0 (0x0F ∷ 0xFF ∷ 0xFF ∷ []) 1 25)
 unfolding Says phaseOf lengthOf scoreOf decodeOf pick

@@ -11,6 +11,12 @@ pub on-false : {t : Bool} → t ≡ false → {A : Type 0} (a b : A) → pick t 
 unfolding pick
 on-false e a b = rw e
 
+-- one thing is picked from itself, whatever the test says
+pub on-either : (t : Bool) {A : Type 0} (a : A) → pick t a a ≡ a
+unfolding pick
+on-either true a = refl
+on-either false a = refl
+
 -- what holds of both holds of what is picked
 pub cases : {A : Type 0} (P : A → Type 0) (t : Bool) {a b : A} → (t ≡ true → P a) → (t ≡ false → P b) → P (pick t a b)
 unfolding pick

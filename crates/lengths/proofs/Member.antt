@@ -11,7 +11,7 @@ use lib.Bits.{bitOr, or-shr, or-mod, or-zero-r}
 use lib.Pow.{pow-lt, pow-add, shl-shr}
 use borrow.Author.Tests.{lt-ltb, le-ltb, eq-eqb, ne-eqb}
 use Rattle.laws.specs.Pick.{pick}
-use Rattle.laws.proofs.Picked.{on-true, on-false}
+use Rattle.laws.proofs.Picked.{on-true, on-false, on-either}
 use Rattle.lengths.specs.declared.BitLengths.{BitLengths}
 use Rattle.lengths.specs.Lengths.{mask, holds, withLength, withLengths, setOf, listed, HoldsJust}
 
@@ -57,11 +57,6 @@ with-other s k n ne = go (ltb k 32) refl
     go false e = rw e
 
 -- ---- the whole list
-pick-same : (b : Bool) {A : Type 0} (a : A) → pick b a a ≡ a
-unfolding pick
-pick-same true a = refl
-pick-same false a = refl
-
 pick-itself : (b : Bool) → b ≡ pick b true false
 unfolding pick
 pick-itself true = refl
@@ -73,7 +68,7 @@ below-32 s [] n h = pick-itself (holds s n)
 below-32 s (k ∷ ks) n h = below-32 (withLength s k) ks n h ∙ go (ℕ-discrete n k)
   where
     go : Dec (n ≡ k) → pick (holds (withLength s k) n) true (listed n ks) ≡ pick (holds s n) true (pick (eqb n k) (ltb n 32) (listed n ks))
-    go (yes e) = rw (← e, on-true (with-same s n h), on-true (eq-eqb n n refl), lt-ltb n 32 h) (sym (pick-same (holds s n) true))
+    go (yes e) = rw (← e, on-true (with-same s n h), on-true (eq-eqb n n refl), lt-ltb n 32 h) (sym (on-either (holds s n) true))
     go (no ne) = rw (with-other s k n ne, on-false (ne-eqb n k ne))
 
 never : (s : BitLengths) (n : ℕ) → 32 ≤ n → holds s n ≡ false
@@ -83,7 +78,7 @@ never s n h = rw (on-false (le-ltb n 32 h))
 never-listed : (n : ℕ) (ks : List ℕ) → 32 ≤ n → listed n ks ≡ false
 unfolding listed
 never-listed n [] h = refl
-never-listed n (k ∷ ks) h = rw (le-ltb n 32 h, never-listed n ks h) (pick-same (eqb n k) false)
+never-listed n (k ∷ ks) h = rw (le-ltb n 32 h, never-listed n ks h) (on-either (eqb n k) false)
 
 none : (n : ℕ) → n < 32 → holds (mask 0) n ≡ false
 unfolding holds
