@@ -37,7 +37,7 @@ use Rattle.fsm.specs.Receiving.{filled, finishedRx, storedRx}
 use Rattle.fsm.specs.Ticking.{isRx, actOf, tickOf}
 use Rattle.fsm.specs.Calls.{tookRx}
 use Rattle.rx_decode.specs.Reading.{sniffedOf, searchedIn, foundOr, ticksOf, lowsFirst, longestLow}
-use Rattle.frames.specs.Ticks.{IsIdle, heard}
+use Rattle.reached.specs.Ticks.{IsIdle, heard}
 use Rattle.bench_table.specs.Row.{Says, lengths-hold-nothing, captures-nothing, reads-at-phase-0}
 use Rattle.bench_table.specs.Table.{rows, AllSay, BenchTable}
 use Rattle.bench_table.proofs.Clash.{zeros-against-eighty}

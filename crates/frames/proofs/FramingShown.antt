@@ -19,7 +19,7 @@ use Rattle.fsm.specs.declared.DaliBitbangPhy.{DaliBitbangPhy}
 use Rattle.fsm.specs.Station.{newStation}
 use Rattle.reached.specs.Calls.{Reached, new, called}
 use Rattle.reached.specs.Calls as call
-use Rattle.frames.specs.Ticks.{IsIdle, heard}
+use Rattle.reached.specs.Ticks.{IsIdle, heard}
 use Rattle.frames.specs.NextFrame.{afterSending}
 use Rattle.frames.specs.ReadAs.{Whole, IsReady, taken, windowIn, frameWeights, ReadAs}
 use Rattle.frames.specs.OneFrame.{OneWave}

@@ -1,7 +1,6 @@
 pub mod SendingTicks
 pub mod Sending
 pub mod SendingShown
-pub mod Capturing
 pub mod Waving
 pub mod Listening
 pub mod Showing

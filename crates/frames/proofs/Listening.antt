@@ -14,9 +14,9 @@ use Rattle.fsm.specs.declared.DaliBitbangPhy.{DaliBitbangPhy}
 use Rattle.fsm.specs.Ticking.{tickOf}
 use Rattle.reached.specs.Calls.{Reached}
 use Rattle.reached.proofs.Holding.{invariants}
-use Rattle.frames.specs.Ticks.{IsIdle, heard, highsRunning}
+use Rattle.reached.specs.Ticks.{IsIdle, heard, highsRunning}
 use Rattle.frames.specs.ReadAs.{Whole, FitsCapture}
-use Rattle.frames.proofs.Capturing.{Hearing, Captured, hearing-next, captured-next, captured-stays, first-low, second-low}
+use Rattle.reached.proofs.Capturing.{Hearing, Captured, hearing-next, captured-next, captured-stays, first-low, second-low}
 use Rattle.frames.proofs.Waving.{lastLow, after-last, short, sixteen, lowIn-bounds}
 
 -- ---- ticks from the first on

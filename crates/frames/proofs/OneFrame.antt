@@ -17,7 +17,7 @@ use Rattle.rx_decode.specs.declared.SniffedFrame.the-variants.{Forward16, Backw
 use Rattle.rx_decode.specs.Reading.{frameOf}
 use Rattle.fsm.specs.Station.{newCore, newStation}
 use Rattle.reached.specs.Calls.{new}
-use Rattle.frames.specs.Ticks.{drives, alone}
+use Rattle.reached.specs.Ticks.{drives, alone}
 use Rattle.frames.specs.Sends.{by-start-tx, startedBy, Sent}
 use Rattle.frames.specs.ReadAs.{frameWeights, kindOf}
 use Rattle.frames.specs.OneFrame.{OneWave, OneWaveOneRow, OneWaveOneFrame, OneStoreOneFrame, OneReadingOneFrame}

@@ -23,7 +23,7 @@ use Rattle.fsm.specs.Station.{eventOf}
 use Rattle.fsm.specs.Calls.{tookRx}
 use Rattle.frames.specs.ReadAs.{FitsCapture, taken, IsReady, windowIn, cleanWeights, frameWeights, ReadAtPhase0, FoundInOneStep}
 use Rattle.frames.specs.WaveToFrame.{WaveToBits}
-use Rattle.frames.proofs.Capturing.{digit, Captured}
+use Rattle.reached.proofs.Capturing.{digit, Captured}
 use Rattle.frames.proofs.Waving.{lastLow, lowIn-bounds, after-last}
 use Rattle.frames.proofs.Listening.{late, Caught, catches}
 use Rattle.frames.proofs.Showing.{shows}

@@ -27,7 +27,7 @@ use Rattle.fsm.specs.Polling.{isTx, polled}
 use Rattle.reached.specs.Calls.{after, Reached, called}
 use Rattle.reached.specs.Calls as call
 use Rattle.reached.proofs.Holding.{invariants}
-use Rattle.frames.specs.Ticks.{drives, IsIdle, IsSending, alone}
+use Rattle.reached.specs.Ticks.{drives, IsIdle, IsSending, alone}
 use Rattle.frames.specs.Sends.{Start, by-start-tx, by-start-answer, startedBy, FitsBuffer, idleAt, Sends}
 use Rattle.frames.specs.FrameToWave.{BitsToWave, FrameToWave}
 use Rattle.frames.specs.NextFrame.{Sending, AllFit, afterSending, NextFrameToWave}

@@ -17,7 +17,7 @@ use Rattle.fsm.specs.Station.{newCore, newStation}
 use Rattle.fsm.specs.Ticking.{isRx, actOf, tickOf}
 use Rattle.reached.specs.Calls.{after, new, called}
 use Rattle.reached.specs.Calls as call
-use Rattle.frames.specs.Ticks.{drives, IsIdle, IsSending, alone}
+use Rattle.reached.specs.Ticks.{drives, IsIdle, IsSending, alone}
 use Rattle.frames.specs.Sends.{Start, by-start-tx, by-start-answer, startedBy, Sent}
 use Rattle.frames.specs.NextFrame.{Sending, AllFit, afterSending}
 use Rattle.frames.proofs.Sending.{frame-to-wave, next-frame-to-wave}

@@ -28,7 +28,7 @@ use Rattle.machine.specs.Acting as machine
 use Rattle.fsm.specs.declared.DaliBitbangPhy.{DaliBitbangPhy}
 use Rattle.fsm.specs.Station.{withCore}
 use Rattle.fsm.specs.Ticking.{isRx, actOf, tickOf}
-use Rattle.frames.specs.Ticks.{drives, IsIdle, IsSending}
+use Rattle.reached.specs.Ticks.{drives, IsIdle, IsSending}
 use Rattle.frames.specs.Sends.{FitsBuffer}
 
 -- ---- a half-bit of the store

@@ -8,7 +8,7 @@ use Rattle.halfbits.specs.HalfBits.{bufferOf}
 use Rattle.halfbits.specs.Encoding.{isBitCount, frameOf, encodedOf}
 use Rattle.fsm.specs.declared.DaliBitbangPhy.{DaliBitbangPhy}
 use Rattle.reached.specs.Calls.{Reached}
-use Rattle.frames.specs.Ticks.{IsIdle}
+use Rattle.reached.specs.Ticks.{IsIdle}
 use Rattle.frames.specs.Sends.{Start, FitsBuffer, Sent}
 
 -- Any Idle station that calls lead to, whatever they were, sends any bits that fit.

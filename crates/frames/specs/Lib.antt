@@ -1,4 +1,3 @@
-pub mod Ticks
 pub mod Sends
 pub mod FrameToWave
 pub mod NextFrame

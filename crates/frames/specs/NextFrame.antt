@@ -5,7 +5,7 @@ use lib.ListN.{length}
 use Rattle.halfbits.specs.HalfBits.{bufferOf}
 use Rattle.fsm.specs.declared.DaliBitbangPhy.{DaliBitbangPhy}
 use Rattle.reached.specs.Calls.{Reached}
-use Rattle.frames.specs.Ticks.{IsIdle, alone}
+use Rattle.reached.specs.Ticks.{IsIdle, alone}
 use Rattle.frames.specs.Sends.{Start, startedBy, FitsBuffer, idleAt, Sent}
 
 -- bits to be sent, and the call that is given them

@@ -13,7 +13,7 @@ use Rattle.fsm.specs.declared.StartAnswer.the-variants as start
 use Rattle.fsm.specs.declared.TxPollResult.the-variants.{Ok}
 use Rattle.fsm.specs.Starting.{startTx, startAnswer}
 use Rattle.fsm.specs.Polling.{polled}
-use Rattle.frames.specs.Ticks.{drives, IsIdle, IsSending, alone}
+use Rattle.reached.specs.Ticks.{drives, IsIdle, IsSending, alone}
 
 -- ---- what is sent
 -- the two calls that start a frame

@@ -6,7 +6,7 @@ use Rattle.halfbits.specs.Frame.{Frame, bytesOf, frameBits, AreBytes}
 use Rattle.halfbits.specs.Wave.{levelAt}
 use Rattle.fsm.specs.declared.DaliBitbangPhy.{DaliBitbangPhy}
 use Rattle.reached.specs.Calls.{Reached}
-use Rattle.frames.specs.Ticks.{IsIdle, heard}
+use Rattle.reached.specs.Ticks.{IsIdle, heard}
 use Rattle.frames.specs.ReadAs.{Whole, FitsCapture, taken, IsReady, ReadAtPhase0, FoundInOneStep, ReadAs}
 
 -- Any Idle station that calls lead to, debouncing or not, that hears a wave whole has its bits in a capture that is ready.

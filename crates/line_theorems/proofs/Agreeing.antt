@@ -20,7 +20,7 @@ use Rattle.fsm.specs.Starting.{hears}
 use Rattle.fsm.specs.Polling.{polled}
 use Rattle.bench_line.specs.declared.BenchLine.{BenchLine}
 use Rattle.bench_line.specs.Line.{stationsOn, stationAt}
-use Rattle.frames.specs.Ticks.{drives, IsIdle, heard, alone}
+use Rattle.reached.specs.Ticks.{drives, IsIdle, heard, alone}
 use Rattle.frames.specs.Sends.{idleAt, Sends}
 use Rattle.frames.specs.ReadAs.{Whole, IsReady, taken, ReadAs}
 use Rattle.frames.proofs.Waving.{lowIn, lowIn-bounds, lastLow, last-falls, after-last, highs-all}

@@ -18,7 +18,7 @@ use Rattle.fsm.specs.declared.DaliBitbangPhy.{DaliBitbangPhy}
 use Rattle.fsm.specs.Starting.{hears}
 use Rattle.bench_line.specs.declared.BenchLine.{BenchLine}
 use Rattle.bench_line.specs.Line.{stationsOn, stationAt}
-use Rattle.frames.specs.Ticks.{drives, IsIdle, IsSending, heard, alone}
+use Rattle.reached.specs.Ticks.{drives, IsIdle, IsSending, heard, alone}
 use Rattle.frames.specs.Sends.{FitsBuffer}
 use Rattle.frames.proofs.SendingTicks.{Sender}
 use Rattle.frames.proofs.Sending.{waving, sends}

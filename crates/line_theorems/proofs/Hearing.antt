@@ -32,7 +32,7 @@ use Rattle.reached.proofs.Holding.{invariants}
 use Rattle.bench_line.specs.declared.BenchLine.{BenchLine}
 use Rattle.bench_line.specs.Line.{stationsOn, stationAt, levelLeft, lineTicked}
 use Rattle.bench_line.proofs.Laws.{left-high, left-low}
-use Rattle.frames.specs.Ticks.{drives, IsIdle, heard}
+use Rattle.reached.specs.Ticks.{drives, IsIdle, heard}
 use Rattle.line_theorems.specs.Reached.{lineAfter, tick, ReachedLine, called}
 use Rattle.line_theorems.specs.Lines.{LineHolds}
 use Rattle.line_theorems.specs.OnLine.{ticksOn}

@@ -35,7 +35,7 @@ use Rattle.bench_line.specs.declared.LineTookRx.{LineTookRx}
 use Rattle.bench_line.specs.Line.{stationsOn, isOn, stationAt, withStation, newLine, allTicked, levelLeft, lineTicked}
 use Rattle.bench_line.specs.Refusals.{isCount}
 use Rattle.bench_line.specs.Calls.{changedAt, startedAt, polledAt, tookIdleAt, tookRxAt}
-use Rattle.frames.specs.Ticks.{drives}
+use Rattle.reached.specs.Ticks.{drives}
 use Rattle.line_theorems.specs.Reached.{LineCall, tick, start-tx, start-answer, poll, take-idle, take-rx, acknowledge, policy}
 use Rattle.line_theorems.specs.Reached.{lineAfter, new-line, called}
 use Rattle.line_theorems.specs.Lines.{LineHolds, LineInvariants}

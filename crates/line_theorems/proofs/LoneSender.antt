@@ -8,7 +8,7 @@ use Rattle.fsm.specs.declared.DaliBitbangPhy.{DaliBitbangPhy}
 use Rattle.fsm.specs.declared.TxPollResult.the-variants.{Ok}
 use Rattle.bench_line.specs.declared.BenchLine.{BenchLine}
 use Rattle.bench_line.specs.Line.{stationsOn, stationAt}
-use Rattle.frames.specs.Ticks.{IsIdle}
+use Rattle.reached.specs.Ticks.{IsIdle}
 use Rattle.frames.specs.Sends.{idleAt, Sends}
 use Rattle.frames.proofs.Sending.{sends}
 use Rattle.line_theorems.specs.Reached.{ReachedLine}

@@ -22,7 +22,7 @@ use Rattle.fsm.specs.declared.TxPollResult.the-variants.{Collision}
 use Rattle.fsm.specs.Polling.{polled}
 use Rattle.bench_line.specs.declared.BenchLine.{BenchLine}
 use Rattle.bench_line.specs.Line.{stationsOn, stationAt}
-use Rattle.frames.specs.Ticks.{IsIdle, heard}
+use Rattle.reached.specs.Ticks.{IsIdle, heard}
 use Rattle.frames.specs.Sends.{Sends}
 use Rattle.frames.proofs.SendingTicks as sending
 use Rattle.frames.proofs.Sending.{sends}

@@ -8,7 +8,7 @@ use Rattle.machine.specs.declared.BusState.the-variants as bus
 use Rattle.fsm.specs.declared.DaliBitbangPhy.{DaliBitbangPhy}
 use Rattle.bench_line.specs.declared.BenchLine.{BenchLine}
 use Rattle.bench_line.specs.Line.{stationAt}
-use Rattle.frames.specs.Ticks.{IsIdle, IsSending}
+use Rattle.reached.specs.Ticks.{IsIdle, IsSending}
 use Rattle.line_theorems.specs.Reached.{ReachedLine}
 use Rattle.line_theorems.specs.OnLine.{ticksOn, AllIdle, Sender, bufferIn}
 use Rattle.line_theorems.specs.TwoSenders.{Pair, bothOn, pullsIn, FirstDifference}

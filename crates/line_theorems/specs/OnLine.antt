@@ -14,7 +14,7 @@ use Rattle.bench_line.specs.declared.LinePoll.the-variants as poll
 use Rattle.bench_line.specs.declared.LineTold.the-variants as told
 use Rattle.bench_line.specs.Line.{stationsOn, stationAt, lineTicked}
 use Rattle.bench_line.specs.Calls.{startedAt, polledAt, tookIdleAt, tookRxAt}
-use Rattle.frames.specs.Ticks.{IsIdle}
+use Rattle.reached.specs.Ticks.{IsIdle}
 use Rattle.frames.specs.Sends.{Start, startedBy}
 use Rattle.frames.specs.ReadAs.{ReadAs}
 

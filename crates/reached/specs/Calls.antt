@@ -1,5 +1,6 @@
 -- The calls that change a station, and the stations that they lead to from a new one. Assumes nothing.
-use mathlib.Core.Bool.{Bool}
+use mathlib.Core.Bool.{Bool, true, false}
+use mathlib.Core.List.{List, [], _∷_}
 use Rattle.halfbits.specs.declared.HalfBitBuffer.{HalfBitBuffer}
 use Rattle.machine.specs.declared.CollisionPolicy.{CollisionPolicy}
 use Rattle.fsm.specs.declared.DaliBitbangPhy.{DaliBitbangPhy}
@@ -30,6 +31,22 @@ after take-idle s = tookIdle s .station
 after take-rx s = tookRx (s .core .told .«rx_state») s .station
 after acknowledge s = acknowledged (s .core .told .«rx_state») s
 after (policy p) s = withPolicy s p
+
+-- the station after these, one after the other
+unfoldable pub afterAll : List Call → DaliBitbangPhy → DaliBitbangPhy
+afterAll [] s = s
+afterAll (c ∷ cs) s = afterAll cs (after c s)
+
+-- A host may make such a call between any two ticks: it polls, takes, acknowledges or sets the policy. It is no tick, and starts nothing.
+unfoldable pub isBetween : Call → Bool
+isBetween (tick high) = false
+isBetween (start-tx hb) = false
+isBetween (start-answer hb) = false
+isBetween poll = true
+isBetween take-idle = true
+isBetween take-rx = true
+isBetween acknowledge = true
+isBetween (policy p) = true
 
 -- any calls in any order
 pub data Reached : DaliBitbangPhy → Type 0 where

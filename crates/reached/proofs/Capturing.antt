@@ -28,7 +28,7 @@ use Rattle.fsm.specs.declared.DaliBitbangPhy.{DaliBitbangPhy}
 use Rattle.fsm.specs.Station.{stationOf}
 use Rattle.fsm.specs.Receiving.{filled, finishedRx, storedRx}
 use Rattle.fsm.specs.Ticking.{isRx, actOf, tickOf}
-use Rattle.frames.specs.Ticks.{IsIdle, highsRunning}
+use Rattle.reached.specs.Ticks.{IsIdle, highsRunning}
 
 module _ (level : ℕ → Bool) where
   abbrev pub digit : ℕ → ℕ
