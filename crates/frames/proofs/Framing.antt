@@ -1,4 +1,4 @@
--- From wave to frame, for frames of 8, 16 and 24 bits (specs/WaveToFrame). Assumes nothing.
+-- From wave to frame, for frames of 8, 16 and 24 bits (specs/WaveToFrame, Amid). Assumes nothing.
 use Prim.Native.Nat.{ℕ, _≤_}
 use native.Mathlib.Omega.{arith}
 use mathlib.Core.Bool.{true}
@@ -15,6 +15,7 @@ use Rattle.search.specs.declared.SearchAnswer.{SearchAnswer}
 use Rattle.search.specs.declared.Found.the-variants.{Decode}
 use Rattle.search.specs.declared.IsrDecode.the-variants.{NotDecoded}
 use Rattle.halfbits.specs.Frame.{Frame, bits-8, bits-16, bits-24, bytesOf, frameBits, AreBytes}
+use Rattle.halfbits.specs.Wave.{levelAt}
 use Rattle.machine.specs.declared.RxState.{RxState}
 use Rattle.machine.specs.declared.RxState.the-variants.{Empty, Receiving, Completed}
 use Rattle.fsm.specs.declared.DaliBitbangPhy.{DaliBitbangPhy}
@@ -23,9 +24,11 @@ use Rattle.fsm.specs.Station.{eventOf, newEvent}
 use Rattle.fsm.specs.Calls.{tookRx}
 use Rattle.rx_decode.specs.declared.BackwardByte.the-variants.{Byte}
 use Rattle.rx_decode.specs.Reading.{sniffedOf, foundOr, searchedIn, byteIn}
-use Rattle.frames.specs.ReadAs.{FoundInOneStep, frameWeights, frameScore, kindOf, ReadAs}
+use Rattle.frames.specs.ReadAs.{FoundInOneStep, frameWeights, frameScore, kindOf, ReadAs, HasFrame}
 use Rattle.frames.specs.WaveToFrame.{WaveToFrame}
-use Rattle.frames.proofs.Reading.{length-is, wave-to-bits}
+use Rattle.frames.specs.Amid.{noCalls, WaveToFrameAmid}
+use Rattle.frames.proofs.Between.{no-calls}
+use Rattle.frames.proofs.Reading.{length-is, lets-hear, wave-to-bits-amid}
 use Rattle.frames.proofs.Bytes.{as-many, byte-is, kind-is}
 
 -- ---- how many bits a frame has
@@ -81,8 +84,14 @@ module _ (ev : RxCompletedEvent) where
         backward = λ byte e. of-8-bits byte (subst (λ f. AreBytes (bytesOf f)) e are) (subst (λ f. FoundInOneStep (frameBits f) ev) e step);
       }
 
+-- ---- the theorems
+pub wave-to-frame-amid : WaveToFrameAmid
+wave-to-frame-amid frame are s reached idle host lets ticks whole =
+    let (some, few) = few-bits frame in
+    let (idle-again, ready, at-phase-0, step) = wave-to-bits-amid (frameBits frame) (omega arith) s reached idle host lets ticks whole in
+    (idle-again, ready, read-as _ (fresh _ _) frame are step)
+
 pub wave-to-frame : WaveToFrame
 wave-to-frame frame are s reached idle ticks whole =
-    let (some, few) = few-bits frame in
-    let (idle-again, ready, at-phase-0, step) = wave-to-bits (frameBits frame) (omega arith) s reached idle ticks whole in
-    (idle-again, ready, read-as _ (fresh _ _) frame are step)
+    subst (λ (t : DaliBitbangPhy). HasFrame frame t) (no-calls ticks s .1 (levelAt (frameBits frame)))
+    (wave-to-frame-amid frame are s reached idle noCalls (lets-hear (frameBits frame)) ticks whole)

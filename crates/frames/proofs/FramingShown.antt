@@ -41,7 +41,7 @@ hears : (frame : Frame) → AreBytes (bytesOf frame) → (s : DaliBitbangPhy) �
 hears frame are s reached idle = wave-to-frame frame are s reached idle (lastLow (frameBits frame) + 17) (heard-whole (frameBits frame))
 
 -- ---- each with any byte of 8 bits
-one-byte : (byte : ℕ) → byte < 256 → AreBytes (bytesOf (bits-8 byte))
+pub one-byte : (byte : ℕ) → byte < 256 → AreBytes (bytesOf (bits-8 byte))
 unfolding bytesOf
 one-byte byte h zero = h
 one-byte byte h (suc i) = omega arith

@@ -1,3 +1,4 @@
+pub mod Between
 pub mod SendingTicks
 pub mod Sending
 pub mod SendingShown
@@ -9,4 +10,5 @@ pub mod Reading
 pub mod Bytes
 pub mod Framing
 pub mod FramingShown
+pub mod AmidShown
 pub mod OneFrame

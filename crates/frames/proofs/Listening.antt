@@ -1,52 +1,70 @@
--- A station that hears a wave whole captures it, with one low tick in front where it was debouncing. Assumes nothing.
-use Prim.Native.Nat.{ℕ, zero, suc, _+_, _-_, _*_, _<_, _≤_}
+-- A station that hears a wave whole captures it, with one low tick in front where it was debouncing, whatever a host calls meanwhile.
+-- Assumes nothing.
+use Prim.Native.Nat.{ℕ, zero, suc, _+_, _-_, _*_, _/_, _<_, _≤_}
 use native.Mathlib.Omega.{arith}
 use native.Mathlib.Decide.{decLt}
 use native.Mathlib.Nat.{not-suc-le-zero}
-use mathlib.Core.Bool.{Bool, false}
+use mathlib.Core.Bool.{Bool}
 use mathlib.Core.List.{List}
 use mathlib.Core.Path.{_≡_, refl, sym, _∙_, ap, subst}
-use lib.ListN.{length}
+use lib.ListN.{length, getD}
 use Rattle.laws.specs.Pick.{pick}
 use Rattle.halfbits.specs.Wave.{high, low, levelAt}
 use Rattle.halfbits.proofs.Levels.{bitOf, first-level}
 use Rattle.fsm.specs.declared.DaliBitbangPhy.{DaliBitbangPhy}
+use Rattle.fsm.specs.declared.LastRx.{LastRx}
 use Rattle.fsm.specs.Ticking.{tickOf}
 use Rattle.reached.specs.Calls.{Reached}
 use Rattle.reached.proofs.Holding.{invariants}
-use Rattle.reached.specs.Ticks.{IsIdle, heard, highsRunning}
+use Rattle.reached.specs.Ticks.{IsIdle, highsRunning}
 use Rattle.frames.specs.ReadAs.{Whole, FitsCapture}
-use Rattle.reached.proofs.Capturing.{Hearing, Captured, hearing-next, captured-next, captured-stays, first-low, second-low}
-use Rattle.frames.proofs.Waving.{lastLow, after-last, short, sixteen, lowIn-bounds}
+use Rattle.frames.specs.Hosts.{Host, heardAmid, LetsHear}
+use Rattle.reached.proofs.Capturing.{Sampled, Stored, Hearing, Captured, hearing-next, captured-next, captured-stays, first-low, second-low}
+use Rattle.frames.proofs.Between.{Kept, markOf, all-kept, all-marks}
+use Rattle.frames.proofs.Waving.{lastLow, after-last, short, sixteen, runs-on, lowIn-bounds}
 
--- ---- ticks from the first on
-heard-first : (n : ℕ) (level : ℕ → Bool) (s : DaliBitbangPhy) → heard (suc n) level s ≡ heard n (λ q. level (suc q)) (tickOf s (level 0))
-unfolding heard
-heard-first zero level s = refl
-heard-first (suc n) level s = ap (λ before. tickOf before (level (suc n))) (heard-first n level s)
+-- ---- what is left as it was
+module _ (level : ℕ → Bool) (m : ℕ) {s t : DaliBitbangPhy} (k : Kept s t) where
+  hears-on : Hearing level m s → Hearing level m t
+  hears-on h = record {
+    in-rx = ap (λ b. b .«bus_state») (k .bus) ∙ h .in-rx;
+    counters = subst (Sampled level m) (sym (k .rx)) (h .counters);
+    bytes = subst (Stored level (m / 8)) (sym (k .bytes)) (h .bytes);
+  }
+
+  holds-on : markOf t ≡ markOf s → Captured level m s → Captured level m t
+  holds-on same h = record {
+    idle = ap (λ b. b .«bus_state») (k .bus) ∙ h .idle;
+    ready = same ∙ h .ready;
+    count = ap (λ l. l .«sample_count») (k .last) ∙ h .count;
+    bytes = subst (λ (l : LastRx). Stored level (m / 8) (l .samples)) (sym (k .last)) (h .bytes);
+    end = ap (λ l. getD (l .samples) (m / 8) 0) (k .last) ∙ h .end;
+  }
 
 -- ---- from the second low sample to the sixteenth high one, and on
+-- (`later n`: the station n ticks behind the second sample)
 module _ (level : ℕ → Bool) (end : ℕ) (room : end ≤ 504) (long : 3 ≤ end)
     (before : (m : ℕ) → m < end → highsRunning m level ≤ 15) (full : highsRunning end level ≡ 16) (stays : (k : ℕ) → end ≤ k → level k ≡ high)
-    (s : DaliBitbangPhy) (two : Hearing level 2 s) where
-  abbrev later : ℕ → DaliBitbangPhy
-  later n = heard n (λ q. level (suc (suc q))) s
-
+    (later : ℕ → DaliBitbangPhy) (two : Hearing level 2 (later 0))
+    (kept : (n : ℕ) → Kept (tickOf (later n) (level (suc (suc n)))) (later (suc n)))
+    (marked : (n : ℕ) → end ≤ suc (suc (suc n)) → markOf (later (suc n)) ≡ markOf (tickOf (later n) (level (suc (suc n))))) where
   still : (n : ℕ) → suc (suc n) < end → Hearing level (suc (suc n)) (later n)
-  unfolding heard
   still zero h = two
-  still (suc n) h = hearing-next level (suc (suc n)) (later n) (still n (omega arith)) (omega arith) (before (suc (suc n)) (omega arith)) (before (suc (suc (suc n))) h)
+  still (suc n) h =
+      hears-on level (suc (suc (suc n))) (kept n)
+      (hearing-next level (suc (suc n)) (later n) (still n (omega arith)) (omega arith) (before (suc (suc n)) (omega arith)) (before (suc (suc (suc n))) h))
 
   caught : (n : ℕ) → suc (suc (suc n)) ≡ end → Captured level end (later (suc n))
-  unfolding heard
   caught n e =
       let c = captured-next level (suc (suc n)) (later n) (still n (omega arith)) (omega arith) (before (suc (suc n)) (omega arith)) (ap (λ m. highsRunning m level) e ∙ full) in
-      subst (λ (m : ℕ). Captured level m (later (suc n))) e c
+      subst (λ (m : ℕ). Captured level m (later (suc n))) e (holds-on level (suc (suc (suc n))) (kept n) (marked n (omega arith)) c)
 
   then : (n : ℕ) → end ≤ suc (suc (suc n)) → (end ≤ suc (suc n) → Captured level end (later n)) → Dec (suc (suc n) < end) → Captured level end (later (suc n))
-  unfolding heard
-  then n h kept (yes last) = caught n (omega arith)
-  then n h kept (no past) = rw (stays (suc (suc n)) (omega (arith, past))) (captured-stays level end (later n) (kept (omega (arith, past))))
+  then n h held (yes last) = caught n (omega arith)
+  then n h held (no past) =
+      let e : level (suc (suc n)) ≡ high = stays (suc (suc n)) (omega (arith, past)) in
+      holds-on level end (kept n) (marked n h)
+      (subst (λ (l : Bool). Captured level end (tickOf (later n) l)) (sym e) (captured-stays level end (later n) (held (omega (arith, past)))))
 
   pub captures : (n : ℕ) → end ≤ suc (suc n) → Captured level end (later n)
   captures zero h = absurd (let none : ⊥ = omega arith in none)
@@ -95,43 +113,69 @@ module _ (frame : List Bool) (fits : FitsCapture frame) where
   enough : lastLow frame + 17 ≤ 503
   enough = let b = lowIn-bounds (bitOf frame (length frame)) in omega arith
 
-  module _ (s : DaliBitbangPhy) (idle : IsIdle s) (whole : length (s .«rx_data») ≡ 64) where
+  module _ (host : Host) (lets : LetsHear frame host) (s : DaliBitbangPhy) (idle : IsIdle s) (whole : length (s .«rx_data») ≡ 64) where
+    abbrev level : ℕ → Bool
+    level = levelAt frame
+
+    abbrev now : ℕ → DaliBitbangPhy
+    now n = heardAmid host n level s
+
+    first-calls : Kept s (now 0)
+    unfolding heardAmid
+    first-calls = all-kept (host 0) s (lets .between 0)
+
+    calls : (n : ℕ) → Kept (tickOf (now n) (level n)) (now (suc n))
+    unfolding heardAmid
+    calls n = all-kept (host (suc n)) (tickOf (now n) (level n)) (lets .between (suc n))
+
+    same-mark : (n : ℕ) → lastLow frame + 17 ≤ suc n → markOf (now (suc n)) ≡ markOf (tickOf (now n) (level n))
+    unfolding heardAmid
+    same-mark n h = all-marks (host (suc n)) (tickOf (now n) (level n)) (lets .no-take (suc n) (runs-on frame (suc n) h))
+
+    -- Idle with so many low ticks remembered, and room for a capture
+    abbrev Ready : ℕ → DaliBitbangPhy → Type 0
+    Ready fell t = IsIdle t × (t .core .bus .«rx_debounce» ≡ fell) × (length (t .«rx_data») ≡ 64)
+
+    idles-on : (fell : ℕ) (t u : DaliBitbangPhy) → Kept t u → Ready fell t → Ready fell u
+    idles-on fell t u k r = (ap (λ b. b .«bus_state») (k .bus) ∙ r .0, ap (λ b. b .«rx_debounce») (k .bus) ∙ r .1, ap length (k .bytes) ∙ r .2)
+
     -- the wave's second tick starts Rx
-    from-quiet : s .core .bus .«rx_debounce» ≡ 0 → (n : ℕ) → lastLow frame + 17 ≤ suc (suc n) → Caught frame (heard (suc (suc n)) (levelAt frame) s)
+    from-quiet : s .core .bus .«rx_debounce» ≡ 0 → (n : ℕ) → lastLow frame + 17 ≤ suc (suc n) → Caught frame (now (suc (suc n)))
     from-quiet quiet n h =
-        let level = levelAt frame in
-        let (fell-idle, fell, same) = first-low s idle quiet in
-        let first = starts-low 0 (omega arith) in
-        let second = starts-low 1 (omega arith) in
-        let two : Hearing level 2 (tickOf (tickOf s (level 0)) (level 1))
-        = rw (first, second) (second-low level (tickOf s false) fell-idle fell (ap length same ∙ whole) first second) in
-        let c = captures level (lastLow frame + 17) (omega (arith, enough)) (omega arith) not-yet (sixteen frame) ends-high (tickOf (tickOf s (level 0)) (level 1)) two n h in
+        let first : level 0 ≡ low = starts-low 0 (omega arith) in
+        let second : level 1 ≡ low = starts-low 1 (omega arith) in
+        let r = idles-on 0 s (now 0) first-calls (idle, quiet, whole) in
+        let (fell-idle, fell, same) = first-low (now 0) (r .0) (r .1) in
+        let one : Ready 1 (tickOf (now 0) (level 0)) = rw first (fell-idle, fell, ap length same ∙ r .2) in
+        let r′ = idles-on 1 (tickOf (now 0) (level 0)) (now 1) (calls 0) one in
+        let two : Hearing level 2 (tickOf (now 1) (level 1)) = rw second (second-low level (now 1) (r′ .0) (r′ .1) (r′ .2) first second) in
         record {
           front = 0;
           few = omega arith;
           end = lastLow frame + 17;
           ends = omega arith;
-          capture = subst (Captured level (lastLow frame + 17)) (sym (heard-first (suc n) level s ∙ heard-first n (λ q. level (suc q)) (tickOf s (level 0)))) c;
+          capture
+              = captures level (lastLow frame + 17) (omega (arith, enough)) (omega arith) not-yet (sixteen frame) ends-high (λ k. now (suc (suc k)))
+              (hears-on level 2 (calls 1) two) (λ k. calls (suc (suc k))) (λ k. same-mark (suc (suc k))) n h;
         }
 
     -- its first tick does, if the one before was low
-    from-debouncing : s .core .bus .«rx_debounce» ≡ 1 → (n : ℕ) → lastLow frame + 17 ≤ suc n → Caught frame (heard (suc n) (levelAt frame) s)
+    from-debouncing : s .core .bus .«rx_debounce» ≡ 1 → (n : ℕ) → lastLow frame + 17 ≤ suc n → Caught frame (now (suc n))
     from-debouncing fell n h =
-        let level = levelAt frame in
-        let two : Hearing (late 1 level) 2 (tickOf s (level 0)) = rw (starts-low 0 (omega arith)) (second-low (late 1 level) s idle fell whole refl (starts-low 0 (omega arith))) in
-        let full = highs-late level (lastLow frame + 17) ∙ sixteen frame in
-        let c
-        = captures (late 1 level) (suc (lastLow frame + 17)) (omega (arith, enough)) (omega arith) not-yet-late full ends-high-late (tickOf s (level 0)) two n
-        (omega arith) in
+        let first : level 0 ≡ low = starts-low 0 (omega arith) in
+        let r = idles-on 1 s (now 0) first-calls (idle, fell, whole) in
+        let two : Hearing (late 1 level) 2 (tickOf (now 0) (level 0)) = rw first (second-low (late 1 level) (now 0) (r .0) (r .1) (r .2) refl first) in
         record {
           front = 1;
           few = omega arith;
           end = suc (lastLow frame + 17);
           ends = omega arith;
-          capture = subst (Captured (late 1 level) (suc (lastLow frame + 17))) (sym (heard-first n level s)) c;
+          capture
+              = captures (late 1 level) (suc (lastLow frame + 17)) (omega (arith, enough)) (omega arith) not-yet-late (highs-late level (lastLow frame + 17) ∙ sixteen frame)
+              ends-high-late (λ k. now (suc k)) (hears-on (late 1 level) 2 (calls 0) two) (λ k. calls (suc k)) (λ k p. same-mark (suc k) (omega arith)) n (omega arith);
         }
 
-    either-way : (ticks : ℕ) → lastLow frame + 17 ≤ ticks → s .core .bus .«rx_debounce» ≤ 1 → Dec (s .core .bus .«rx_debounce» < 1) → Caught frame (heard ticks (levelAt frame) s)
+    either-way : (ticks : ℕ) → lastLow frame + 17 ≤ ticks → s .core .bus .«rx_debounce» ≤ 1 → Dec (s .core .bus .«rx_debounce» < 1) → Caught frame (now ticks)
     either-way zero h one quiet = absurd (let none : ⊥ = omega arith in none)
     either-way (suc zero) h one quiet = absurd (let none : ⊥ = omega arith in none)
     either-way (suc (suc n)) h one (yes quiet) = from-quiet (omega arith) n h
@@ -142,7 +186,8 @@ module _ (frame : List Bool) (fits : FitsCapture frame) where
   long-enough ticks whole (yes early) = let few = not-yet ticks early in absurd (let none : ⊥ = omega arith in none)
   long-enough ticks whole (no late) = omega (arith, late)
 
-  pub catches : (s : DaliBitbangPhy) → Reached s → IsIdle s → (ticks : ℕ) → Whole frame ticks → Caught frame (heard ticks (levelAt frame) s)
-  catches s reached idle ticks whole =
+  pub catches : (s : DaliBitbangPhy) → Reached s → IsIdle s → (host : Host) → LetsHear frame host → (ticks : ℕ) → Whole frame ticks
+      → Caught frame (heardAmid host ticks (levelAt frame) s)
+  catches s reached idle host lets ticks whole =
       let holds = invariants s reached in
-      either-way s idle (holds .data-whole) ticks (long-enough ticks whole (decLt ticks (lastLow frame + 17))) (holds .debounce idle) (decLt (s .core .bus .«rx_debounce») 1)
+      either-way host lets s idle (holds .data-whole) ticks (long-enough ticks whole (decLt ticks (lastLow frame + 17))) (holds .debounce idle) (decLt (s .core .bus .«rx_debounce») 1)

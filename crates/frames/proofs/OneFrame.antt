@@ -24,7 +24,7 @@ use Rattle.frames.specs.OneFrame.{OneWave, OneWaveOneRow, OneWaveOneFram
 use Rattle.frames.proofs.Waving.{lastLow, lowIn, last-falls}
 use Rattle.frames.proofs.Bytes.{kind-is}
 use Rattle.frames.proofs.Framing.{few-bits}
-use Rattle.frames.proofs.Sending.{bits-to-wave}
+use Rattle.frames.proofs.Sending.{idle-may, bits-to-wave}
 
 -- ---- bits
 -- the last low tick of the longer one is high in the other
@@ -78,6 +78,6 @@ pub one-store-one-frame : OneStoreOneFrame
 unfolding newStation newCore
 one-store-one-frame this that these those one =
     let sent : (frame : Frame) → Sent by-start-tx newStation (bufferOf (frameBits frame)) (frameBits frame)
-    = λ frame. let (some, few) = few-bits frame in bits-to-wave (frameBits frame) (omega arith) newStation new refl by-start-tx in
+    = λ frame. let (some, few) = few-bits frame in bits-to-wave (frameBits frame) (omega arith) newStation new by-start-tx (idle-may by-start-tx newStation refl) in
     let driven : ℕ → HalfBitBuffer → Bool = λ tick hb. drives (alone (4 + tick) (startedBy by-start-tx newStation hb .station)) in
     one-wave-one-frame this that these those (λ tick. sym (sent this .1 .wave tick) ∙ ap (driven tick) one ∙ sent that .1 .wave tick)

@@ -1,9 +1,9 @@
--- From wave to frame (specs/WaveToFrame). Assumes nothing.
+-- From wave to frame (specs/WaveToFrame, Amid). Assumes nothing.
 use Prim.Native.Nat.{ℕ, suc, _+_, _-_, _*_, _/_, _<_, _≤_}
 use native.Mathlib.Omega.{arith}
 use mathlib.Core.Bool.{Bool, true}
 use mathlib.Core.List.{List, [], _∷_}
-use mathlib.Core.Path.{_≡_, refl, _∙_, ap}
+use mathlib.Core.Path.{_≡_, refl, _∙_, ap, subst}
 use lib.IntN.{pos}
 use lib.ListN.{length}
 use borrow.Author.Tests.{lt-ltb, le-ltb}
@@ -21,9 +21,12 @@ use Rattle.halfbits.specs.Wave.{high, levelAt}
 use Rattle.fsm.specs.declared.DaliBitbangPhy.{DaliBitbangPhy}
 use Rattle.fsm.specs.Station.{eventOf}
 use Rattle.fsm.specs.Calls.{tookRx}
-use Rattle.frames.specs.ReadAs.{FitsCapture, taken, IsReady, windowIn, cleanWeights, frameWeights, ReadAtPhase0, FoundInOneStep}
+use Rattle.frames.specs.ReadAs.{FitsCapture, taken, IsReady, windowIn, cleanWeights, frameWeights, ReadAtPhase0, FoundInOneStep, HasBits}
 use Rattle.frames.specs.WaveToFrame.{WaveToBits}
+use Rattle.frames.specs.Hosts.{Each, LetsHear}
+use Rattle.frames.specs.Amid.{noCalls, WaveToBitsAmid}
 use Rattle.reached.proofs.Capturing.{digit, Captured}
+use Rattle.frames.proofs.Between.{no-calls}
 use Rattle.frames.proofs.Waving.{lastLow, lowIn-bounds, after-last}
 use Rattle.frames.proofs.Listening.{late, Caught, catches}
 use Rattle.frames.proofs.Showing.{shows}
@@ -92,7 +95,18 @@ module _ (frame : List Bool) (fits : FitsCapture frame) (s : DaliBitbangPhy) (ca
   in-one-step : FoundInOneStep frame (taken s)
   in-one-step preferred h few held = found frame (windowIn (taken s)) (at-phase-0 32 few) preferred h held
 
+-- ---- the theorems
+pub wave-to-bits-amid : WaveToBitsAmid
+wave-to-bits-amid frame fits s reached idle host lets ticks whole =
+    let caught = catches frame fits s reached idle host lets ticks whole in
+    (caught .capture .idle, is-ready frame fits _ caught, at-phase-0 frame fits _ caught, in-one-step frame fits _ caught)
+
+-- a host that makes no call
+pub lets-hear : (frame : List Bool) → LetsHear frame noCalls
+unfolding Each
+lets-hear frame = record { between = λ ticks. tt; no-take = λ ticks h. tt }
+
 pub wave-to-bits : WaveToBits
 wave-to-bits frame fits s reached idle ticks whole =
-    let caught = catches frame fits s reached idle ticks whole in
-    (caught .capture .idle, is-ready frame fits _ caught, at-phase-0 frame fits _ caught, in-one-step frame fits _ caught)
+    subst (λ (t : DaliBitbangPhy). HasBits frame t) (no-calls ticks s .1 (levelAt frame))
+    (wave-to-bits-amid frame fits s reached idle noCalls (lets-hear frame) ticks whole)

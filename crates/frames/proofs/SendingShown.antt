@@ -1,26 +1,35 @@
--- Stations that the theorems of Sending speak of: a new one, one that is debouncing, and one that has sent before. Assumes nothing.
+-- Stations that the theorems of Sending speak of: a new one, one that is debouncing, one in the middle of a capture, and one that has sent
+-- before. Assumes nothing.
 use Prim.Native.Nat.{ℕ}
 use native.Mathlib.Omega.{arith}
 use mathlib.Core.List.{List, [], _∷_}
-use mathlib.Core.Path.{_≡_, refl}
+use mathlib.Core.Path.{_≡_, refl, ap}
 use Rattle.laws.specs.Pick.{pick}
 use Rattle.laws.specs.Tabulate.{tabulate}
+use Rattle.laws.proofs.Picked.{on-false}
+use Rattle.halfbits.specs.declared.HalfBitBuffer.{HalfBitBuffer}
 use Rattle.halfbits.specs.Frame.{bits-8, bits-16, bits-24, bytesOf, bitsOf, frameBits}
 use Rattle.halfbits.specs.Wave.{high, low, bitWave, bitWaves, waveOf, levelAt}
 use Rattle.halfbits.specs.HalfBits.{bufferOf}
 use Rattle.halfbits.specs.Encoding.{isBitCount, frameOf, encodedOf}
+use Rattle.machine.specs.declared.BusState.the-variants as bus
 use Rattle.machine.specs.Runs.{heardOf}
-use Rattle.machine.specs.Idle.{idleTick}
+use Rattle.machine.specs.Sampling.{highRun, sampled, rxTick}
+use Rattle.machine.specs.Idle.{entered, idleTick}
 use Rattle.machine.specs.Acting as machine
 use Rattle.fsm.specs.declared.DaliBitbangPhy.{DaliBitbangPhy}
+use Rattle.fsm.specs.declared.Started.{Started}
+use Rattle.fsm.specs.declared.StartAnswer.the-variants as start
 use Rattle.fsm.specs.Station.{newCore, newStation}
+use Rattle.fsm.specs.Receiving.{filled, storedRx}
 use Rattle.fsm.specs.Ticking.{isRx, actOf, tickOf}
-use Rattle.reached.specs.Calls.{after, new, called}
+use Rattle.fsm.specs.Starting.{isIdle, hears, startTx}
+use Rattle.reached.specs.Calls.{after, Reached, new, called}
 use Rattle.reached.specs.Calls as call
 use Rattle.reached.specs.Ticks.{drives, IsIdle, IsSending, alone}
-use Rattle.frames.specs.Sends.{Start, by-start-tx, by-start-answer, startedBy, Sent}
-use Rattle.frames.specs.NextFrame.{Sending, AllFit, afterSending}
-use Rattle.frames.proofs.Sending.{frame-to-wave, next-frame-to-wave}
+use Rattle.frames.specs.Sends.{Start, by-start-tx, by-start-answer, startedBy, MayStart, Sent}
+use Rattle.frames.specs.NextFrame.{Sending, AllFit, afterSending, firstOf}
+use Rattle.frames.proofs.Sending.{idle-may, frame-to-wave, next-frame-to-wave}
 
 -- ---- a new station
 pub new-idle : IsIdle newStation
@@ -31,7 +40,7 @@ new-idle = refl
 pub new-sends : (first second third : ℕ) (by : Start)
     → let frame = bits-24 first second third in Sent by newStation (encodedOf 24 frame .buffer) (frameBits frame)
 unfolding isBitCount frameOf pick
-new-sends first second third by = frame-to-wave 24 first second third refl newStation new new-idle by
+new-sends first second third by = frame-to-wave 24 first second third refl newStation new by (idle-may by newStation new-idle)
 
 -- What that says of some of its ticks: the last one before the wave, the two halves of the start bit, and the end.
 pub new-at-some-ticks : (first second third : ℕ) (by : Start)
@@ -54,7 +63,28 @@ it-debounces = (refl, refl)
 pub debouncing-sends : (first second : ℕ) (by : Start)
     → let frame = bits-16 first second in Sent by debouncing (encodedOf 16 frame .buffer) (frameBits frame)
 unfolding isBitCount frameOf pick
-debouncing-sends first second by = frame-to-wave 16 first second 0 refl debouncing (called (call.tick low) new) (it-debounces .0) by
+debouncing-sends first second by = frame-to-wave 16 first second 0 refl debouncing (called (call.tick low) new) by (idle-may by debouncing (it-debounces .0))
+
+-- ---- one in the middle of a capture: three low ticks, and a high one
+abbrev pub receiving : DaliBitbangPhy
+receiving = after (call.tick high) (after (call.tick low) (after (call.tick low) (after (call.tick low) newStation)))
+
+pub it-receives : receiving .core .bus .«bus_state» ≡ bus.Rx
+unfolding after tickOf actOf isRx pick machine.actOf idleTick entered heardOf sampled highRun rxTick storedRx filled newStation newCore
+it-receives = refl
+
+pub receiving-reached : Reached receiving
+receiving-reached = called (call.tick high) (called (call.tick low) (called (call.tick low) (called (call.tick low) new)))
+
+-- It answers 8 bits, whatever they are
+pub receiving-answers : (byte : ℕ) → let frame = bits-8 byte in Sent by-start-answer receiving (encodedOf 8 frame .buffer) (frameBits frame)
+unfolding isBitCount frameOf pick MayStart hears
+receiving-answers byte = frame-to-wave 8 byte 0 0 refl receiving receiving-reached by-start-answer (ap hears it-receives)
+
+-- and is not sent otherwise.
+pub receiving-refuses : (hb : HalfBitBuffer) → startedBy by-start-tx receiving hb .answer ≡ start.Busy
+unfolding startedBy startTx isIdle
+receiving-refuses hb = ap (λ (r : Started). r .answer) (on-false (ap isIdle it-receives) _ _)
 
 -- ---- one that has answered 8 bits and sent 16
 abbrev pub before : List Sending
@@ -67,6 +97,15 @@ before-fit = (omega arith, (omega arith, tt))
 -- and now 24, the most that fit
 pub sends-again : (first second third : ℕ) (by : Start)
     → let bits = frameBits (bits-24 first second third) in Sent by (afterSending before newStation) (bufferOf bits) bits
-unfolding bytesOf bitsOf tabulate
+unfolding bytesOf bitsOf tabulate firstOf
 sends-again first second third by =
-    next-frame-to-wave before before-fit newStation new new-idle (record { by = by; bits = frameBits (bits-24 first second third) }) (omega arith)
+    next-frame-to-wave before before-fit (record { by = by; bits = frameBits (bits-24 first second third) }) (omega arith) newStation new
+    (idle-may by-start-answer newStation new-idle)
+
+-- The first of them may also have been an answer in the middle of a capture.
+pub sends-after-answering : (first second third : ℕ) (by : Start)
+    → let bits = frameBits (bits-24 first second third) in Sent by (afterSending before receiving) (bufferOf bits) bits
+unfolding bytesOf bitsOf tabulate firstOf MayStart hears
+sends-after-answering first second third by =
+    next-frame-to-wave before before-fit (record { by = by; bits = frameBits (bits-24 first second third) }) (omega arith) receiving receiving-reached
+    (ap hears it-receives)

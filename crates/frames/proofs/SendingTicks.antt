@@ -1,4 +1,4 @@
--- What one tick does to a station that sends, or rests, and hears itself alone. Assumes nothing.
+-- What one tick, and the calls of a host, do to a station that sends, or rests, and hears itself alone. Assumes nothing.
 use Prim.Native.Nat.{ℕ, suc, _+_, _-_, _*_, _/_, _%_, _<_}
 use native.Mathlib.Omega.{arith}
 use mathlib.Core.Bool.{Bool, true, false, not}
@@ -29,7 +29,10 @@ use Rattle.fsm.specs.declared.DaliBitbangPhy.{DaliBitbangPhy}
 use Rattle.fsm.specs.Station.{withCore}
 use Rattle.fsm.specs.Ticking.{isRx, actOf, tickOf}
 use Rattle.reached.specs.Ticks.{drives, IsIdle, IsSending}
+use Rattle.reached.specs.Calls.{Call, afterAll, isBetween}
 use Rattle.frames.specs.Sends.{FitsBuffer}
+use Rattle.frames.specs.Hosts.{Each, isNoTick}
+use Rattle.frames.proofs.Between.{Kept, Clear, all-kept, all-clear, all-busy}
 
 -- ---- a half-bit of the store
 is-zero : (b : Bool) → eqb (bit b) 0 ≡ not b
@@ -53,10 +56,6 @@ read-back bits j h =
 -- a tick of one that hears itself
 abbrev pub next : DaliBitbangPhy → DaliBitbangPhy
 next s = tickOf s (drives s)
-
--- no clash and no yield is to be told
-abbrev pub Clear : DaliBitbangPhy → Type 0
-Clear s = (s .core .told .«tx_collision» ≡ 0) × (s .core .told .«tx_yielded» ≡ false)
 
 -- It sends these bits under this policy: so many ticks are armed, so many half-bits are begun, so many ticks of the last of them are left,
 -- and this is the level that it drives.
@@ -181,3 +180,30 @@ finish {s = s} a =
 pub rest : (s : DaliBitbangPhy) → Rests s → Rests (next s)
 unfolding tickOf actOf isRx pick machine.actOf idleTick heardOf
 rest s r = rw (r .0, r .1) (refl, refl, r .2)
+
+-- ---- the calls of a host
+-- what is left as it was sends as before, under the policy that it has now
+moved : {bits : List Bool} {policy : CollisionPolicy} {ticks j left : ℕ} {level : Bool} {s t : DaliBitbangPhy}
+    → Kept s t → Clear t → Sender bits policy ticks j left level s → Sender bits (t .core .«collision_policy») ticks j left level t
+moved k clear a = record {
+  state = ap (λ b. b .«bus_state») (k .bus) ∙ a .state;
+  store = ap (λ hb. hb .«tx_hb_data») (k .store) ∙ a .store;
+  loads = ap (λ hb. hb .«tx_hb_len») (k .store) ∙ a .loads;
+  watch = refl;
+  arms = ap (λ tx. tx .«tx_armed») (k .tx) ∙ a .arms;
+  begun = ap (λ tx. tx .«tx_hb_cnt») (k .tx) ∙ a .begun;
+  spaces = ap (λ tx. tx .«tx_sp_cnt») (k .tx) ∙ a .spaces;
+  line = ap (λ b. b .«driven_high») (k .bus) ∙ a .line;
+  pulled = λ e. ap (λ tx. tx .«tx_high») (k .tx) ∙ a .pulled e;
+  released = λ some e. ap (λ tx. tx .«tx_high») (k .tx) ∙ a .released some e;
+  clear = clear;
+}
+
+pub sends-on : {bits : List Bool} {policy : CollisionPolicy} {ticks j left : ℕ} {level : Bool} (cs : List Call) {s : DaliBitbangPhy} → Each isNoTick cs
+    → Sender bits policy ticks j left level s → let t = afterAll cs s in Sender bits (t .core .«collision_policy») ticks j left level t
+sends-on cs {s} each a = let (k, clear) = all-busy cs s each (a .state) (a .clear) in moved k clear a
+
+pub rests-on : (cs : List Call) (s : DaliBitbangPhy) → Each isBetween cs → Rests s → Rests (afterAll cs s)
+rests-on cs s each r =
+    let k = all-kept cs s each in
+    (ap (λ b. b .«bus_state») (k .bus) ∙ r .0, ap (λ b. b .«driven_high») (k .bus) ∙ r .1, all-clear cs s each (r .2))

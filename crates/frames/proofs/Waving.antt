@@ -87,3 +87,9 @@ module _ (frame : List Bool) where
 
   pub sixteen : highsRunning (lastLow + 17) (levelAt frame) ≡ 16
   sixteen = let e : lastLow + 17 ≡ suc lastLow + 16 = omega arith in rw e (highs-all (levelAt frame) lastLow last-falls 16 (λ k h. after-last k))
+
+  pub runs-on : (t : ℕ) → lastLow + 17 ≤ t → 16 ≤ highsRunning t (levelAt frame)
+  runs-on t h =
+      let e : t ≡ suc lastLow + (t - suc lastLow) = omega arith in
+      let highs = highs-all (levelAt frame) lastLow last-falls (t - suc lastLow) (λ k p. after-last k) in
+      rw e (omega (arith, highs))

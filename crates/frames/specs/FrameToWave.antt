@@ -8,15 +8,15 @@ use Rattle.halfbits.specs.HalfBits.{bufferOf}
 use Rattle.halfbits.specs.Encoding.{isBitCount, frameOf, encodedOf}
 use Rattle.fsm.specs.declared.DaliBitbangPhy.{DaliBitbangPhy}
 use Rattle.reached.specs.Calls.{Reached}
-use Rattle.reached.specs.Ticks.{IsIdle}
-use Rattle.frames.specs.Sends.{Start, FitsBuffer, Sent}
+use Rattle.frames.specs.Sends.{Start, MayStart, FitsBuffer, Sent}
 
--- Any Idle station that calls lead to, whatever they were, sends any bits that fit.
+-- Any station that calls lead to, whatever they were, takes a start where that is allowed and sends any bits that fit.
 abbrev pub BitsToWave : Type 0
-BitsToWave = (bits : List Bool) → FitsBuffer bits → (s : DaliBitbangPhy) → Reached s → IsIdle s → (by : Start) → Sent by s (bufferOf bits) bits
+BitsToWave =
+    (bits : List Bool) → FitsBuffer bits → (s : DaliBitbangPhy) → Reached s → (by : Start) → MayStart by s → Sent by s (bufferOf bits) bits
 
 -- And so it sends a frame of 8, 16 or 24 bits that the encoder gave it.
 abbrev pub FrameToWave : Type 0
 FrameToWave =
-    (bits first second third : ℕ) → isBitCount bits ≡ true → (s : DaliBitbangPhy) → Reached s → IsIdle s → (by : Start)
+    (bits first second third : ℕ) → isBitCount bits ≡ true → (s : DaliBitbangPhy) → Reached s → (by : Start) → MayStart by s
     → let frame = frameOf bits first second third in Sent by s (encodedOf bits frame .buffer) (frameBits frame)

@@ -5,8 +5,8 @@ use lib.ListN.{length}
 use Rattle.halfbits.specs.HalfBits.{bufferOf}
 use Rattle.fsm.specs.declared.DaliBitbangPhy.{DaliBitbangPhy}
 use Rattle.reached.specs.Calls.{Reached}
-use Rattle.reached.specs.Ticks.{IsIdle, alone}
-use Rattle.frames.specs.Sends.{Start, startedBy, FitsBuffer, idleAt, Sent}
+use Rattle.reached.specs.Ticks.{alone}
+use Rattle.frames.specs.Sends.{Start, startedBy, MayStart, FitsBuffer, idleAt, Sent}
 
 -- bits to be sent, and the call that is given them
 pub record Sending : Type 0 where
@@ -23,8 +23,13 @@ afterSending [] s = s
 afterSending (one ∷ more) s =
     afterSending more (alone (idleAt (length (one .bits))) (startedBy (one .by) s (bufferOf (one .bits)) .station))
 
--- The second frame is sent as the first was, and the hundredth too.
+-- the first of these and the next one
+unfoldable pub firstOf : List Sending → Sending → Sending
+firstOf [] next = next
+firstOf (one ∷ more) next = one
+
+-- The second frame is sent as the first was, and the hundredth too: once the first start is allowed, so are all others.
 abbrev pub NextFrameToWave : Type 0
 NextFrameToWave =
-    (before : List Sending) → AllFit before → (s : DaliBitbangPhy) → Reached s → IsIdle s
-    → (next : Sending) → FitsBuffer (next .bits) → Sent (next .by) (afterSending before s) (bufferOf (next .bits)) (next .bits)
+    (before : List Sending) → AllFit before → (next : Sending) → FitsBuffer (next .bits)
+    → (s : DaliBitbangPhy) → Reached s → MayStart (firstOf before next .by) s → Sent (next .by) (afterSending before s) (bufferOf (next .bits)) (next .bits)

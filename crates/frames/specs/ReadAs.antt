@@ -21,7 +21,7 @@ use Rattle.rx_decode.specs.declared.SniffedFrame.{SniffedFrame}
 use Rattle.rx_decode.specs.declared.SniffedFrame.the-variants.{Forward16, Backward8, Forward24}
 use Rattle.rx_decode.specs.declared.BackwardByte.the-variants.{Byte}
 use Rattle.rx_decode.specs.Reading.{sniffedOf, searchedIn, foundIn, byteIn}
-use Rattle.reached.specs.Ticks.{highsRunning}
+use Rattle.reached.specs.Ticks.{IsIdle, highsRunning}
 
 -- ---- what is heard
 -- The wave has been heard whole: at least sixteen ticks from its last low one on were high, the last bit's own high half among them.
@@ -81,3 +81,11 @@ pub record ReadAs (frame : Frame) (ev : RxCompletedEvent) : Type 0 where
   pub sniffed : sniffedOf (foundIn ev) ≡ record { frame = kindOf frame; «phase_ticks» = pos 0; score = frameScore (frameBits frame) }
   pub one-step : runOf (newOf sniffedLengths) (windowIn ev) .steps ≡ 1
   pub backward : (byte : ℕ) → frame ≡ bits-8 byte → byteIn (searchedIn backwardLengths ev) ≡ Byte byte
+
+-- ---- what is held
+-- An Idle station has a capture ready, and it is read as these bits, or as this frame.
+abbrev pub HasBits : List Bool → DaliBitbangPhy → Type 0
+HasBits frame s = IsIdle s × IsReady s × ReadAtPhase0 frame (taken s) × FoundInOneStep frame (taken s)
+
+abbrev pub HasFrame : Frame → DaliBitbangPhy → Type 0
+HasFrame frame s = IsIdle s × IsReady s × ReadAs frame (taken s)

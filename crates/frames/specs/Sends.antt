@@ -1,6 +1,6 @@
--- What it means that a station sends bits. Assumes nothing.
+-- What it means that a start is taken, and that a station sends bits. Assumes nothing.
 use Prim.Native.Nat.{ℕ, _+_, _*_, _≤_, _<_}
-use mathlib.Core.Bool.{Bool}
+use mathlib.Core.Bool.{Bool, true}
 use mathlib.Core.List.{List}
 use mathlib.Core.Path.{_≡_}
 use lib.ListN.{length}
@@ -10,8 +10,8 @@ use Rattle.halfbits.specs.HalfBits.{halfBitsOf}
 use Rattle.fsm.specs.declared.DaliBitbangPhy.{DaliBitbangPhy}
 use Rattle.fsm.specs.declared.Started.{Started}
 use Rattle.fsm.specs.declared.StartAnswer.the-variants as start
-use Rattle.fsm.specs.declared.TxPollResult.the-variants.{Ok}
-use Rattle.fsm.specs.Starting.{startTx, startAnswer}
+use Rattle.fsm.specs.declared.TxPollResult.the-variants.{Ok, Transmitting}
+use Rattle.fsm.specs.Starting.{hears, startTx, startAnswer}
 use Rattle.fsm.specs.Polling.{polled}
 use Rattle.reached.specs.Ticks.{drives, IsIdle, IsSending, alone}
 
@@ -25,6 +25,11 @@ unfoldable pub startedBy : Start → DaliBitbangPhy → HalfBitBuffer → Starte
 startedBy by-start-tx s hb = startTx s hb
 startedBy by-start-answer s hb = startAnswer s hb
 
+-- where a start is taken: start_tx in Idle, start_answer in Idle and in Rx
+unfoldable pub MayStart : Start → DaliBitbangPhy → Type 0
+MayStart by-start-tx s = IsIdle s
+MayStart by-start-answer s = hears (s .core .bus .«bus_state») ≡ true
+
 -- as many bits as a half-bit buffer has room for
 abbrev pub FitsBuffer : List Bool → Type 0
 FitsBuffer bits = halfBitsOf (length bits) ≤ 54
@@ -34,14 +39,19 @@ abbrev pub idleAt : ℕ → ℕ
 idleAt bits = 8 * bits + 25
 
 -- ---- what is driven
--- A started station that hears itself alone drives three high ticks and then, from tick 4 on, the wave and nothing else; tick 0 is the
--- start itself. It is sending until it is Idle again, and then tells so.
-pub record Sends (bits : List Bool) (s : DaliBitbangPhy) : Type 0 where
-  pub armed : (tick : ℕ) → tick < 4 → drives (alone tick s) ≡ high
-  pub wave : (tick : ℕ) → drives (alone (4 + tick) s) ≡ levelAt bits tick
-  pub sending : (tick : ℕ) → tick < idleAt (length bits) → IsSending (alone tick s)
-  pub idle : (tick : ℕ) → idleAt (length bits) ≤ tick → IsIdle (alone tick s)
-  pub sent : (tick : ℕ) → idleAt (length bits) ≤ tick → polled (alone tick s) .answer ≡ Ok
+-- A started station drives three high ticks and then, from tick 4 on, the wave and nothing else; tick 0 is the start itself. It is sending
+-- until it is Idle again, and a poll tells so. (`at`: the station after so many ticks.)
+pub record SendsAt (bits : List Bool) (at : ℕ → DaliBitbangPhy → DaliBitbangPhy) (s : DaliBitbangPhy) : Type 0 where
+  pub armed : (tick : ℕ) → tick < 4 → drives (at tick s) ≡ high
+  pub wave : (tick : ℕ) → drives (at (4 + tick) s) ≡ levelAt bits tick
+  pub sending : (tick : ℕ) → tick < idleAt (length bits) → IsSending (at tick s)
+  pub unfinished : (tick : ℕ) → tick < idleAt (length bits) → polled (at tick s) .answer ≡ Transmitting
+  pub idle : (tick : ℕ) → idleAt (length bits) ≤ tick → IsIdle (at tick s)
+  pub sent : (tick : ℕ) → idleAt (length bits) ≤ tick → polled (at tick s) .answer ≡ Ok
+
+-- hearing itself alone, with no call after the start
+abbrev pub Sends : List Bool → DaliBitbangPhy → Type 0
+Sends bits s = SendsAt bits alone s
 
 -- The start is not refused, and the frame is sent.
 abbrev pub Sent : Start → DaliBitbangPhy → HalfBitBuffer → List Bool → Type 0

@@ -7,16 +7,16 @@ use Rattle.halfbits.specs.Wave.{levelAt}
 use Rattle.fsm.specs.declared.DaliBitbangPhy.{DaliBitbangPhy}
 use Rattle.reached.specs.Calls.{Reached}
 use Rattle.reached.specs.Ticks.{IsIdle, heard}
-use Rattle.frames.specs.ReadAs.{Whole, FitsCapture, taken, IsReady, ReadAtPhase0, FoundInOneStep, ReadAs}
+use Rattle.frames.specs.ReadAs.{Whole, FitsCapture, HasBits, HasFrame}
 
 -- Any Idle station that calls lead to, debouncing or not, that hears a wave whole has its bits in a capture that is ready.
 abbrev pub WaveToBits : Type 0
 WaveToBits =
     (frame : List Bool) → FitsCapture frame → (s : DaliBitbangPhy) → Reached s → IsIdle s → (ticks : ℕ) → Whole frame ticks
-    → let after = heard ticks (levelAt frame) s in IsIdle after × IsReady after × ReadAtPhase0 frame (taken after) × FoundInOneStep frame (taken after)
+    → HasBits frame (heard ticks (levelAt frame) s)
 
 -- And so the capture of a frame of 8, 16 or 24 bits is read as that frame.
 abbrev pub WaveToFrame : Type 0
 WaveToFrame =
     (frame : Frame) → AreBytes (bytesOf frame) → (s : DaliBitbangPhy) → Reached s → IsIdle s → (ticks : ℕ) → Whole (frameBits frame) ticks
-    → let after = heard ticks (levelAt (frameBits frame)) s in IsIdle after × IsReady after × ReadAs frame (taken after)
+    → HasFrame frame (heard ticks (levelAt (frameBits frame)) s)

@@ -1,0 +1,139 @@
+-- Hosts that the theorems of Amid speak of: after every tick they poll, take, acknowledge and set policies, and while a station sends they
+-- try to start it again. Assumes nothing.
+use Prim.Native.Nat.{ℕ, zero, suc, _+_, _<_}
+use native.Mathlib.Omega.{arith}
+use mathlib.Core.Bool.{Bool}
+use mathlib.Core.List.{List, [], _∷_}
+use mathlib.Core.Path.{_≡_, refl, ap}
+use lib.Dec.{ltb, leb}
+use borrow.Author.Tests.{le-leb, le-ltb}
+use Rattle.laws.specs.Pick.{pick}
+use Rattle.laws.specs.Tabulate.{tabulate}
+use Rattle.laws.proofs.Picked.{on-true, on-false, cases}
+use Rattle.halfbits.specs.declared.HalfBitBuffer.{HalfBitBuffer}
+use Rattle.halfbits.specs.Frame.{bits-8, bits-24, bytesOf, bitsOf, frameBits}
+use Rattle.halfbits.specs.Wave.{low, high, bitWave, bitWaves, waveOf, levelAt}
+use Rattle.halfbits.specs.Encoding.{isBitCount, frameOf, encodedOf}
+use Rattle.machine.specs.declared.CollisionPolicy.the-variants.{Auto, Off, On}
+use Rattle.machine.specs.Runs.{heardOf}
+use Rattle.machine.specs.BecomingIdle.{idled}
+use Rattle.machine.specs.Sampling.{highRun, sampled, finished, rxTick}
+use Rattle.machine.specs.Idle.{entered, idleTick}
+use Rattle.machine.specs.Acting as machine
+use Rattle.fsm.specs.declared.DaliBitbangPhy.{DaliBitbangPhy}
+use Rattle.fsm.specs.declared.TxPollResult.the-variants.{Ok, Transmitting}
+use Rattle.fsm.specs.Station.{newCore, newStation}
+use Rattle.fsm.specs.Receiving.{filled, finishedRx, storedRx}
+use Rattle.fsm.specs.Ticking.{isRx, actOf, tickOf}
+use Rattle.fsm.specs.Starting.{hears}
+use Rattle.fsm.specs.Polling.{polled}
+use Rattle.fsm.specs.Calls.{tookRx}
+use Rattle.reached.specs.Calls.{Call, tick, start-tx, start-answer, poll, take-idle, take-rx, acknowledge, policy, after, afterAll, isBetween, Reached, new, called}
+use Rattle.reached.specs.Ticks.{IsIdle, drives, highsRunning}
+use Rattle.frames.specs.Sends.{Start, by-start-answer, startedBy, MayStart, idleAt}
+use Rattle.frames.specs.ReadAs.{IsReady, HasFrame}
+use Rattle.frames.specs.Hosts.{Host, heardAmid, aloneAmid, Each, isNoTick, keepsCapture, LetsSend, LetsHear}
+use Rattle.frames.specs.Amid.{SentAmid}
+use Rattle.frames.proofs.Waving.{lastLow}
+use Rattle.frames.proofs.Sending.{idle-may, frame-to-wave-amid}
+use Rattle.frames.proofs.SendingShown.{new-idle, receiving, it-receives, receiving-reached}
+use Rattle.frames.proofs.Framing.{wave-to-frame-amid}
+use Rattle.frames.proofs.FramingShown.{heard-whole, one-byte}
+
+-- ---- while a station sends
+module _ (hb : HalfBitBuffer) where
+  -- two polls, two policies, two starts in vain, and takes that find nothing
+  abbrev meddling : List Call
+  meddling = poll ∷ policy On ∷ start-tx hb ∷ start-answer hb ∷ take-rx ∷ acknowledge ∷ take-idle ∷ policy Off ∷ poll ∷ []
+
+  -- once it is Idle
+  abbrev waiting : List Call
+  waiting = poll ∷ take-idle ∷ take-rx ∷ acknowledge ∷ policy Auto ∷ []
+
+  unfoldable pub restless : ℕ → Host
+  restless bits ticks = pick (ltb ticks (idleAt bits)) meddling waiting
+
+  lets-send : (bits : ℕ) → LetsSend bits (restless bits)
+  unfolding restless Each isNoTick isBetween
+  lets-send bits =
+      let idle-calls : Each isBetween waiting = (refl, (refl, (refl, (refl, (refl, tt))))) in
+      record {
+        no-tick =
+            λ ticks. cases (Each isNoTick) (ltb ticks (idleAt bits)) (λ _. (refl, (refl, (refl, (refl, (refl, (refl, (refl, (refl, (refl, tt)))))))))) (λ _. (refl, (refl, (refl, (refl, (refl, tt))))));
+        no-start = λ ticks late. rw (on-false (le-ltb ticks (idleAt bits) late)) idle-calls;
+      }
+
+  -- 24 bits, whatever they are, and whatever half-bits it is to be started with again
+  pub new-sends-amid : (first second third : ℕ) (by : Start)
+      → let frame = bits-24 first second third in SentAmid (restless 24) by newStation (encodedOf 24 frame .buffer) (frameBits frame)
+  unfolding isBitCount frameOf pick
+  new-sends-amid first second third by =
+      frame-to-wave-amid 24 first second third refl newStation new by (idle-may by newStation new-idle) (restless 24) (lets-send 24)
+
+  -- What that says of some of its ticks.
+  pub amid-at-some-ticks : (first second third : ℕ) (by : Start)
+      → let at : ℕ → DaliBitbangPhy = λ n. aloneAmid (restless 24) n (startedBy by newStation (encodedOf 24 (bits-24 first second third) .buffer) .station) in
+      (drives (at 3) ≡ high) × (drives (at 4) ≡ low) × (drives (at 8) ≡ high) × (polled (at 216) .answer ≡ Transmitting) × (polled (at 217) .answer ≡ Ok)
+  unfolding bytesOf bitsOf tabulate levelAt waveOf bitWaves bitWave
+  amid-at-some-ticks first second third by =
+      let sent = new-sends-amid first second third by .1 in
+      (sent .armed 3 (omega arith), sent .wave 0, sent .wave 4, sent .unfinished 216 (omega arith), sent .sent 217 (omega arith))
+
+  -- an answer, begun in the middle of a capture
+  pub receiving-answers-amid : (byte : ℕ) → let frame = bits-8 byte in SentAmid (restless 8) by-start-answer receiving (encodedOf 8 frame .buffer) (frameBits frame)
+  unfolding isBitCount frameOf pick MayStart hears
+  receiving-answers-amid byte =
+      frame-to-wave-amid 8 byte 0 0 refl receiving receiving-reached by-start-answer (ap hears it-receives) (restless 8) (lets-send 8)
+
+-- ---- while a station hears a wave
+-- It takes and acknowledges after every tick until the wave is heard whole; then it only polls, takes the idle mark and sets the policy.
+unfoldable pub curious : List Bool → Host
+curious frame ticks =
+    pick (leb 16 (highsRunning ticks (levelAt frame))) (poll ∷ take-idle ∷ policy On ∷ []) (poll ∷ take-rx ∷ acknowledge ∷ take-idle ∷ policy Off ∷ [])
+
+lets-hear : (frame : List Bool) → LetsHear frame (curious frame)
+unfolding curious Each isBetween keepsCapture
+lets-hear frame =
+    let keeping : Each keepsCapture (poll ∷ take-idle ∷ policy On ∷ []) = (refl, (refl, (refl, tt))) in
+    record {
+      between = λ ticks. cases (Each isBetween) (leb 16 (highsRunning ticks (levelAt frame))) (λ _. (refl, (refl, (refl, tt)))) (λ _. (refl, (refl, (refl, (refl, (refl, tt))))));
+      no-take = λ ticks whole. rw (on-true (le-leb 16 (highsRunning ticks (levelAt frame)) whole)) keeping;
+    }
+
+-- It does take before that, at the very first tick for one.
+pub takes-at-first : (frame : List Bool) → curious frame 0 ≡ poll ∷ take-rx ∷ acknowledge ∷ take-idle ∷ policy Off ∷ []
+unfolding curious highsRunning pick
+takes-at-first frame = refl
+
+hears-amid : (byte : ℕ) → byte < 256 → (s : DaliBitbangPhy) → Reached s → IsIdle s
+    → let frame = bits-8 byte in HasFrame frame (heardAmid (curious (frameBits frame)) (lastLow (frameBits frame) + 17) (levelAt (frameBits frame)) s)
+hears-amid byte h s reached idle =
+    let frame = bits-8 byte in
+    wave-to-frame-amid frame (one-byte byte h) s reached idle (curious (frameBits frame)) (lets-hear (frameBits frame)) (lastLow (frameBits frame) + 17) (heard-whole (frameBits frame))
+
+pub new-hears-amid : (byte : ℕ) → byte < 256
+    → let frame = bits-8 byte in HasFrame frame (heardAmid (curious (frameBits frame)) (lastLow (frameBits frame) + 17) (levelAt (frameBits frame)) newStation)
+new-hears-amid byte h = hears-amid byte h newStation new new-idle
+
+-- ---- one that holds an earlier capture, which is taken in the middle of the next
+unfoldable pub times : ℕ → Call → List Call → List Call
+times zero c cs = cs
+times (suc n) c cs = c ∷ times n c cs
+
+-- two low ticks and sixteen high ones
+unfoldable pub noise : List Call
+noise = times 2 (tick low) (times 16 (tick high) [])
+
+all-reached : (cs : List Call) (s : DaliBitbangPhy) → Reached s → Reached (afterAll cs s)
+unfolding afterAll
+all-reached [] s reached = reached
+all-reached (c ∷ cs) s reached = all-reached cs (after c s) (called c reached)
+
+holds-noise : let s = afterAll noise newStation in IsIdle s × IsReady s
+unfolding noise times afterAll after newStation newCore tickOf isRx actOf machine.actOf rxTick heardOf idled idleTick entered sampled highRun storedRx filled finishedRx finished tookRx pick
+holds-noise = (refl, refl)
+
+pub hears-after-noise : (byte : ℕ) → byte < 256
+    → let frame = bits-8 byte in
+    HasFrame frame (heardAmid (curious (frameBits frame)) (lastLow (frameBits frame) + 17) (levelAt (frameBits frame)) (afterAll noise newStation))
+hears-after-noise byte h = hears-amid byte h (afterAll noise newStation) (all-reached noise newStation new) (holds-noise .0)

@@ -1,0 +1,55 @@
+-- Demand 2, both ways, with a host that makes calls in the middle of a frame. Assumes nothing.
+use Prim.Native.Nat.{ℕ}
+use mathlib.Core.Bool.{Bool, true}
+use mathlib.Core.List.{List, []}
+use mathlib.Core.Path.{_≡_}
+use lib.ListN.{length}
+use Rattle.halfbits.specs.declared.HalfBitBuffer.{HalfBitBuffer}
+use Rattle.halfbits.specs.Frame.{Frame, bytesOf, frameBits, AreBytes}
+use Rattle.halfbits.specs.Wave.{levelAt}
+use Rattle.halfbits.specs.HalfBits.{bufferOf}
+use Rattle.halfbits.specs.Encoding.{isBitCount, frameOf, encodedOf}
+use Rattle.fsm.specs.declared.DaliBitbangPhy.{DaliBitbangPhy}
+use Rattle.fsm.specs.declared.StartAnswer.the-variants as start
+use Rattle.reached.specs.Calls.{Reached}
+use Rattle.reached.specs.Ticks.{IsIdle, heard, alone}
+use Rattle.frames.specs.Sends.{Start, startedBy, MayStart, FitsBuffer, SendsAt}
+use Rattle.frames.specs.ReadAs.{Whole, FitsCapture, HasBits, HasFrame}
+use Rattle.frames.specs.Hosts.{Host, heardAmid, aloneAmid, LetsSend, LetsHear}
+
+-- ---- from frame to wave
+-- The start is not refused, and the frame is sent, whatever the host calls. After each tick this is said of the station behind any of the
+-- calls made there, since a host may as well stop at that one; so every poll in the middle says Transmitting, and every later one Ok.
+abbrev pub SentAmid : Host → Start → DaliBitbangPhy → HalfBitBuffer → List Bool → Type 0
+SentAmid host by s hb bits = (startedBy by s hb .answer ≡ start.Started) × SendsAt bits (aloneAmid host) (startedBy by s hb .station)
+
+abbrev pub BitsToWaveAmid : Type 0
+BitsToWaveAmid =
+    (bits : List Bool) → FitsBuffer bits → (s : DaliBitbangPhy) → Reached s → (by : Start) → MayStart by s
+    → (host : Host) → LetsSend (length bits) host → SentAmid host by s (bufferOf bits) bits
+
+abbrev pub FrameToWaveAmid : Type 0
+FrameToWaveAmid =
+    (bits first second third : ℕ) → isBitCount bits ≡ true → (s : DaliBitbangPhy) → Reached s → (by : Start) → MayStart by s
+    → (host : Host) → LetsSend bits host → let frame = frameOf bits first second third in SentAmid host by s (encodedOf bits frame .buffer) (frameBits frame)
+
+-- ---- from wave to frame
+abbrev pub WaveToBitsAmid : Type 0
+WaveToBitsAmid =
+    (frame : List Bool) → FitsCapture frame → (s : DaliBitbangPhy) → Reached s → IsIdle s → (host : Host) → LetsHear frame host
+    → (ticks : ℕ) → Whole frame ticks → HasBits frame (heardAmid host ticks (levelAt frame) s)
+
+abbrev pub WaveToFrameAmid : Type 0
+WaveToFrameAmid =
+    (frame : Frame) → AreBytes (bytesOf frame) → (s : DaliBitbangPhy) → Reached s → IsIdle s → (host : Host) → LetsHear (frameBits frame) host
+    → (ticks : ℕ) → Whole (frameBits frame) ticks → HasFrame frame (heardAmid host ticks (levelAt (frameBits frame)) s)
+
+-- ---- a host that makes no call
+abbrev pub noCalls : Host
+noCalls ticks = []
+
+-- With it the station is the one of ticks alone.
+abbrev pub NoCalls : Type 0
+NoCalls =
+    (ticks : ℕ) (s : DaliBitbangPhy)
+    → (aloneAmid noCalls ticks s ≡ alone ticks s) × ((level : ℕ → Bool) → heardAmid noCalls ticks level s ≡ heard ticks level s)
