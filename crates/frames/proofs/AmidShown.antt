@@ -30,7 +30,7 @@ use Rattle.fsm.specs.Polling.{polled}
 use Rattle.fsm.specs.Calls.{tookRx}
 use Rattle.reached.specs.Calls.{Call, tick, start-tx, start-answer, poll, take-idle, take-rx, acknowledge, policy, after, afterAll, isBetween, Reached, new, called}
 use Rattle.reached.specs.Ticks.{IsIdle, drives, highsRunning}
-use Rattle.frames.specs.Sends.{Start, by-start-answer, startedBy, MayStart, idleAt}
+use Rattle.frames.specs.Sends.{Start, by-start-answer, startedBy, takenIn, idleAt}
 use Rattle.frames.specs.ReadAs.{IsReady, HasFrame}
 use Rattle.frames.specs.Hosts.{Host, heardAmid, aloneAmid, Each, isNoTick, keepsCapture, LetsSend, LetsHear}
 use Rattle.frames.specs.Amid.{SentAmid}
@@ -81,7 +81,7 @@ module _ (hb : HalfBitBuffer) where
 
   -- an answer, begun in the middle of a capture
   pub receiving-answers-amid : (byte : ℕ) → let frame = bits-8 byte in SentAmid (restless 8) by-start-answer receiving (encodedOf 8 frame .buffer) (frameBits frame)
-  unfolding isBitCount frameOf pick MayStart hears
+  unfolding isBitCount frameOf pick takenIn hears
   receiving-answers-amid byte =
       frame-to-wave-amid 8 byte 0 0 refl receiving receiving-reached by-start-answer (ap hears it-receives) (restless 8) (lets-send 8)
 

@@ -128,9 +128,9 @@ module _ (frame : List Bool) (fits : FitsCapture frame) where
     unfolding heardAmid
     calls n = all-kept (host (suc n)) (tickOf (now n) (level n)) (lets .between (suc n))
 
-    same-mark : (n : ℕ) → lastLow frame + 17 ≤ suc n → markOf (now (suc n)) ≡ markOf (tickOf (now n) (level n))
+    mark-stays : (n : ℕ) → lastLow frame + 17 ≤ suc n → markOf (now (suc n)) ≡ markOf (tickOf (now n) (level n))
     unfolding heardAmid
-    same-mark n h = all-marks (host (suc n)) (tickOf (now n) (level n)) (lets .no-take (suc n) (runs-on frame (suc n) h))
+    mark-stays n h = all-marks (host (suc n)) (tickOf (now n) (level n)) (lets .no-take (suc n) (runs-on frame (suc n) h))
 
     -- Idle with so many low ticks remembered, and room for a capture
     abbrev Ready : ℕ → DaliBitbangPhy → Type 0
@@ -156,7 +156,7 @@ module _ (frame : List Bool) (fits : FitsCapture frame) where
           ends = omega arith;
           capture
               = captures level (lastLow frame + 17) (omega (arith, enough)) (omega arith) not-yet (sixteen frame) ends-high (λ k. now (suc (suc k)))
-              (hears-on level 2 (calls 1) two) (λ k. calls (suc (suc k))) (λ k. same-mark (suc (suc k))) n h;
+              (hears-on level 2 (calls 1) two) (λ k. calls (suc (suc k))) (λ k. mark-stays (suc (suc k))) n h;
         }
 
     -- its first tick does, if the one before was low
@@ -172,7 +172,7 @@ module _ (frame : List Bool) (fits : FitsCapture frame) where
           ends = omega arith;
           capture
               = captures (late 1 level) (suc (lastLow frame + 17)) (omega (arith, enough)) (omega arith) not-yet-late (highs-late level (lastLow frame + 17) ∙ sixteen frame)
-              ends-high-late (λ k. now (suc k)) (hears-on (late 1 level) 2 (calls 0) two) (λ k. calls (suc k)) (λ k p. same-mark (suc k) (omega arith)) n (omega arith);
+              ends-high-late (λ k. now (suc k)) (hears-on (late 1 level) 2 (calls 0) two) (λ k. calls (suc k)) (λ k p. mark-stays (suc k) (omega arith)) n (omega arith);
         }
 
     either-way : (ticks : ℕ) → lastLow frame + 17 ≤ ticks → s .core .bus .«rx_debounce» ≤ 1 → Dec (s .core .bus .«rx_debounce» < 1) → Caught frame (now ticks)

@@ -17,6 +17,8 @@ use Rattle.halfbits.specs.HalfBits.{pulls, halfBitsOf, bufferOf}
 use Rattle.halfbits.specs.Encoding.{isBitCount, frameOf, encodedOf}
 use Rattle.halfbits.proofs.Levels.{later-level, half-bits-are-the-wave}
 use Rattle.halfbits.proofs.Encodes.{few, as-many}
+use Rattle.machine.specs.declared.BusState.{BusState}
+use Rattle.machine.specs.declared.BusState.the-variants as bus
 use Rattle.machine.specs.declared.CollisionPolicy.{CollisionPolicy}
 use Rattle.machine.specs.Starting.{loaded}
 use Rattle.fsm.specs.declared.DaliBitbangPhy.{DaliBitbangPhy}
@@ -28,7 +30,7 @@ use Rattle.reached.specs.Calls.{after, Reached, called}
 use Rattle.reached.specs.Calls as call
 use Rattle.reached.proofs.Holding.{invariants}
 use Rattle.reached.specs.Ticks.{drives, IsIdle, IsSending, alone}
-use Rattle.frames.specs.Sends.{Start, by-start-tx, by-start-answer, startedBy, MayStart, FitsBuffer, idleAt, SendsAt, Sends}
+use Rattle.frames.specs.Sends.{Start, by-start-tx, by-start-answer, startedBy, takenIn, MayStart, FitsBuffer, idleAt, SendsAt, Sends}
 use Rattle.frames.specs.FrameToWave.{BitsToWave, FrameToWave}
 use Rattle.frames.specs.NextFrame.{Sending, AllFit, afterSending, firstOf, NextFrameToWave}
 use Rattle.frames.specs.Hosts.{Host, aloneAmid, LetsSend}
@@ -151,30 +153,34 @@ isAnswer : Start → Bool
 isAnswer by-start-tx = false
 isAnswer by-start-answer = true
 
--- Idle is where either is allowed
+-- Idle is where either is taken
 pub idle-may : (by : Start) (s : DaliBitbangPhy) → IsIdle s → MayStart by s
-unfolding MayStart hears
-idle-may by-start-tx s idle = idle
-idle-may by-start-answer s idle = ap hears idle
+unfolding takenIn isIdle hears
+idle-may by-start-tx s idle = rw idle
+idle-may by-start-answer s idle = rw idle
 
 -- a station that may start listens, so that it leaves the line high
-may-hear : (by : Start) (s : DaliBitbangPhy) → MayStart by s → hears (s .core .bus .«bus_state») ≡ true
-unfolding MayStart hears
-may-hear by-start-tx s may = ap hears may
-may-hear by-start-answer s may = may
+may-hear : (by : Start) (state : BusState) → takenIn by state ≡ true → hears state ≡ true
+unfolding takenIn isIdle hears
+may-hear by bus.Idle may = refl
+may-hear by bus.Rx may = refl
+may-hear by-start-tx bus.Tx may = may
+may-hear by-start-answer bus.Tx may = may
+may-hear by-start-tx bus.CollisionTx may = may
+may-hear by-start-answer bus.CollisionTx may = may
 
 -- and refuses no length that fits
 accepted : (by : Start) (s : DaliBitbangPhy) (hb : HalfBitBuffer) → MayStart by s → 0 < hb .length → hb .length ≤ 54
     → startedBy by s hb ≡ startedWith (loadedWith s hb (isAnswer by)) start.Started
-unfolding startedBy isAnswer MayStart startTx startAnswer started isIdle lengthFits
+unfolding startedBy isAnswer takenIn startTx startAnswer started lengthFits
 accepted by s hb may some most = go by may
   where
     fits : lengthFits (hb .length) ≡ true
     fits = on-false (ne-eqb (hb .length) 0 (λ e. omega (arith, e))) _ _ ∙ le-leb (hb .length) 54 most
 
     go : (by : Start) → MayStart by s → startedBy by s hb ≡ startedWith (loadedWith s hb (isAnswer by)) start.Started
-    go by-start-tx may = on-true (ap isIdle may) _ _ ∙ on-true fits _ _
-    go by-start-answer may = on-true may _ _ ∙ on-true fits _ _
+    go by-start-tx may = let idle : isIdle (s .core .bus .«bus_state») ≡ true = may in on-true idle _ _ ∙ on-true fits _ _
+    go by-start-answer may = let listens : hears (s .core .bus .«bus_state») ≡ true = may in on-true listens _ _ ∙ on-true fits _ _
 
 loaded-sends : (bits : List Bool) (s : DaliBitbangPhy) (answer : Bool) → drives s ≡ high
     → Sender bits (s .core .«collision_policy») 3 0 0 high (loadedWith s (bufferOf bits) answer)
@@ -199,7 +205,7 @@ takes : (bits : List Bool) → FitsBuffer bits → (s : DaliBitbangPhy) → Reac
     (started .answer ≡ start.Started) × Sender bits (s .core .«collision_policy») 3 0 0 high (started .station)
 unfolding bufferOf
 takes bits fits s reached by may =
-    let line : drives s ≡ high = invariants s reached .released (may-hear by s may) in
+    let line : drives s ≡ high = invariants s reached .released (may-hear by (s .core .bus .«bus_state») may) in
     rw (accepted by s (bufferOf bits) may (omega arith) fits) (refl, loaded-sends bits s (isAnswer by) line)
 
 -- An Idle station takes either.
@@ -274,4 +280,4 @@ next-frame-to-wave [] fit last fits s reached may = bits-to-wave (last .bits) fi
 next-frame-to-wave (one ∷ more) fit last fits s reached may =
     let (reached′, idle′) = after-one one (fit .0) s reached may in
     let (reached″, idle″) = ready more (fit .1) _ reached′ idle′ in
-    bits-to-wave (last .bits) fits _ reached″ (last .by) (idle-may (last .by) _ idle″)
+    bits-to-wave (last .bits) fits _ reached″ (last .by) (idle-may (last .by) (afterSending (one ∷ more) s) idle″)

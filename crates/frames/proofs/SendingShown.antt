@@ -27,7 +27,7 @@ use Rattle.fsm.specs.Starting.{isIdle, hears, startTx}
 use Rattle.reached.specs.Calls.{after, Reached, new, called}
 use Rattle.reached.specs.Calls as call
 use Rattle.reached.specs.Ticks.{drives, IsIdle, IsSending, alone}
-use Rattle.frames.specs.Sends.{Start, by-start-tx, by-start-answer, startedBy, MayStart, Sent}
+use Rattle.frames.specs.Sends.{Start, by-start-tx, by-start-answer, startedBy, takenIn, Sent}
 use Rattle.frames.specs.NextFrame.{Sending, AllFit, afterSending, firstOf}
 use Rattle.frames.proofs.Sending.{idle-may, frame-to-wave, next-frame-to-wave}
 
@@ -78,7 +78,7 @@ receiving-reached = called (call.tick high) (called (call.tick low) (called (cal
 
 -- It answers 8 bits, whatever they are
 pub receiving-answers : (byte : ℕ) → let frame = bits-8 byte in Sent by-start-answer receiving (encodedOf 8 frame .buffer) (frameBits frame)
-unfolding isBitCount frameOf pick MayStart hears
+unfolding isBitCount frameOf pick takenIn hears
 receiving-answers byte = frame-to-wave 8 byte 0 0 refl receiving receiving-reached by-start-answer (ap hears it-receives)
 
 -- and is not sent otherwise.
@@ -105,7 +105,7 @@ sends-again first second third by =
 -- The first of them may also have been an answer in the middle of a capture.
 pub sends-after-answering : (first second third : ℕ) (by : Start)
     → let bits = frameBits (bits-24 first second third) in Sent by (afterSending before receiving) (bufferOf bits) bits
-unfolding bytesOf bitsOf tabulate firstOf MayStart hears
+unfolding bytesOf bitsOf tabulate firstOf takenIn hears
 sends-after-answering first second third by =
     next-frame-to-wave before before-fit (record { by = by; bits = frameBits (bits-24 first second third) }) (omega arith) receiving receiving-reached
     (ap hears it-receives)

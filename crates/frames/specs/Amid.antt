@@ -17,9 +17,11 @@ use Rattle.frames.specs.Sends.{Start, startedBy, MayStart, FitsBuffer, S
 use Rattle.frames.specs.ReadAs.{Whole, FitsCapture, HasBits, HasFrame}
 use Rattle.frames.specs.Hosts.{Host, heardAmid, aloneAmid, LetsSend, LetsHear}
 
+-- Each says of a station what holds behind all calls that follow a tick, and so behind any of them, since another host stops there: a poll
+-- that is among them tells that too, and a take.
+
 -- ---- from frame to wave
--- The start is not refused, and the frame is sent, whatever the host calls. After each tick this is said of the station behind any of the
--- calls made there, since a host may as well stop at that one; so every poll in the middle says Transmitting, and every later one Ok.
+-- The start is not refused, and the frame is sent amid the host's calls.
 abbrev pub SentAmid : Host → Start → DaliBitbangPhy → HalfBitBuffer → List Bool → Type 0
 SentAmid host by s hb bits = (startedBy by s hb .answer ≡ start.Started) × SendsAt bits (aloneAmid host) (startedBy by s hb .station)
 

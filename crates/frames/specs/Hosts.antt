@@ -52,8 +52,8 @@ keepsCapture take-rx = false
 keepsCapture acknowledge = false
 keepsCapture (policy p) = true
 
--- While the station sends so many bits, the host may make any call, further starts among them, which are refused. Once it is Idle again, a
--- start would be taken: none is made.
+-- While the station sends so many bits, the host may make any call but a tick; starts are refused. Once it is Idle again, a start would be
+-- taken: none is made.
 pub record LetsSend (bits : ℕ) (host : Host) : Type 0 where
   pub no-tick : (ticks : ℕ) → Each isNoTick (host ticks)
   pub no-start : (ticks : ℕ) → idleAt bits ≤ ticks → Each isBetween (host ticks)

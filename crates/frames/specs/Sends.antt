@@ -7,11 +7,12 @@ use lib.ListN.{length}
 use Rattle.halfbits.specs.declared.HalfBitBuffer.{HalfBitBuffer}
 use Rattle.halfbits.specs.Wave.{high, levelAt}
 use Rattle.halfbits.specs.HalfBits.{halfBitsOf}
+use Rattle.machine.specs.declared.BusState.{BusState}
 use Rattle.fsm.specs.declared.DaliBitbangPhy.{DaliBitbangPhy}
 use Rattle.fsm.specs.declared.Started.{Started}
 use Rattle.fsm.specs.declared.StartAnswer.the-variants as start
 use Rattle.fsm.specs.declared.TxPollResult.the-variants.{Ok, Transmitting}
-use Rattle.fsm.specs.Starting.{hears, startTx, startAnswer}
+use Rattle.fsm.specs.Starting.{isIdle, hears, startTx, startAnswer}
 use Rattle.fsm.specs.Polling.{polled}
 use Rattle.reached.specs.Ticks.{drives, IsIdle, IsSending, alone}
 
@@ -25,10 +26,13 @@ unfoldable pub startedBy : Start → DaliBitbangPhy → HalfBitBuffer → Starte
 startedBy by-start-tx s hb = startTx s hb
 startedBy by-start-answer s hb = startAnswer s hb
 
--- where a start is taken: start_tx in Idle, start_answer in Idle and in Rx
-unfoldable pub MayStart : Start → DaliBitbangPhy → Type 0
-MayStart by-start-tx s = IsIdle s
-MayStart by-start-answer s = hears (s .core .bus .«bus_state») ≡ true
+-- start_tx is taken in Idle, start_answer in Idle and in Rx
+unfoldable pub takenIn : Start → BusState → Bool
+takenIn by-start-tx state = isIdle state
+takenIn by-start-answer state = hears state
+
+abbrev pub MayStart : Start → DaliBitbangPhy → Type 0
+MayStart by s = takenIn by (s .core .bus .«bus_state») ≡ true
 
 -- as many bits as a half-bit buffer has room for
 abbrev pub FitsBuffer : List Bool → Type 0
@@ -40,7 +44,7 @@ idleAt bits = 8 * bits + 25
 
 -- ---- what is driven
 -- A started station drives three high ticks and then, from tick 4 on, the wave and nothing else; tick 0 is the start itself. It is sending
--- until it is Idle again, and a poll tells so. (`at`: the station after so many ticks.)
+-- until it is Idle again, and a poll tells so. (`at`: the station after so many ticks, each of which samples the level that it drives.)
 pub record SendsAt (bits : List Bool) (at : ℕ → DaliBitbangPhy → DaliBitbangPhy) (s : DaliBitbangPhy) : Type 0 where
   pub armed : (tick : ℕ) → tick < 4 → drives (at tick s) ≡ high
   pub wave : (tick : ℕ) → drives (at (4 + tick) s) ≡ levelAt bits tick
@@ -49,7 +53,7 @@ pub record SendsAt (bits : List Bool) (at : ℕ → DaliBitbangPhy → DaliBitba
   pub idle : (tick : ℕ) → idleAt (length bits) ≤ tick → IsIdle (at tick s)
   pub sent : (tick : ℕ) → idleAt (length bits) ≤ tick → polled (at tick s) .answer ≡ Ok
 
--- hearing itself alone, with no call after the start
+-- hearing itself alone, and with no call after the start
 abbrev pub Sends : List Bool → DaliBitbangPhy → Type 0
 Sends bits s = SendsAt bits alone s
 
