@@ -1,12 +1,12 @@
--- Hosts that the theorems of Amid speak of: after every tick they poll, take, acknowledge and set policies, and while a station sends they
--- try to start it again. Assumes nothing.
+-- Hosts that the theorems of Amid speak of: after every tick they poll, take, acknowledge and set policies, and they try to start a station
+-- that sends, or hears. Assumes nothing.
 use Prim.Native.Nat.{ℕ, zero, suc, _+_, _<_}
 use native.Mathlib.Omega.{arith}
 use mathlib.Core.Bool.{Bool}
 use mathlib.Core.List.{List, [], _∷_}
 use mathlib.Core.Path.{_≡_, refl, ap}
 use lib.Dec.{ltb, leb}
-use borrow.Author.Tests.{le-leb, le-ltb}
+use borrow.Author.Tests.{le-leb, lt-ltb, le-ltb}
 use Rattle.laws.specs.Pick.{pick}
 use Rattle.laws.specs.Tabulate.{tabulate}
 use Rattle.laws.proofs.Picked.{on-true, on-false, cases}
@@ -32,7 +32,7 @@ use Rattle.reached.specs.Calls.{Call, tick, start-tx, start-answer, poll, take-
 use Rattle.reached.specs.Ticks.{IsIdle, drives, highsRunning}
 use Rattle.frames.specs.Sends.{Start, by-start-answer, startedBy, takenIn, idleAt}
 use Rattle.frames.specs.ReadAs.{IsReady, HasFrame}
-use Rattle.frames.specs.Hosts.{Host, heardAmid, aloneAmid, Each, isNoTick, keepsCapture, LetsSend, LetsHear}
+use Rattle.frames.specs.Hosts.{Host, heardAmid, aloneAmid, Each, keepsTx, keepsRx, keepsCapture, LetsSend, LetsHear}
 use Rattle.frames.specs.Amid.{SentAmid}
 use Rattle.frames.proofs.Waving.{lastLow}
 use Rattle.frames.proofs.Sending.{idle-may, frame-to-wave-amid}
@@ -54,13 +54,13 @@ module _ (hb : HalfBitBuffer) where
   restless bits ticks = pick (ltb ticks (idleAt bits)) meddling waiting
 
   lets-send : (bits : ℕ) → LetsSend bits (restless bits)
-  unfolding restless Each isNoTick isBetween
+  unfolding restless Each keepsTx isBetween
   lets-send bits =
       let idle-calls : Each isBetween waiting = (refl, (refl, (refl, (refl, (refl, tt))))) in
       record {
-        no-tick =
-            λ ticks. cases (Each isNoTick) (ltb ticks (idleAt bits)) (λ _. (refl, (refl, (refl, (refl, (refl, (refl, (refl, (refl, (refl, tt)))))))))) (λ _. (refl, (refl, (refl, (refl, (refl, tt))))));
-        no-start = λ ticks late. rw (on-false (le-ltb ticks (idleAt bits) late)) idle-calls;
+        in-tx =
+            λ ticks. cases (Each keepsTx) (ltb ticks (idleAt bits)) (λ _. (refl, (refl, (refl, (refl, (refl, (refl, (refl, (refl, (refl, tt)))))))))) (λ _. (refl, (refl, (refl, (refl, (refl, tt))))));
+        idle = λ ticks late. rw (on-false (le-ltb ticks (idleAt bits) late)) idle-calls;
       }
 
   -- 24 bits, whatever they are, and whatever half-bits it is to be started with again
@@ -86,34 +86,53 @@ module _ (hb : HalfBitBuffer) where
       frame-to-wave-amid 8 byte 0 0 refl receiving receiving-reached by-start-answer (ap hears it-receives) (restless 8) (lets-send 8)
 
 -- ---- while a station hears a wave
--- It takes and acknowledges after every tick until the wave is heard whole; then it only polls, takes the idle mark and sets the policy.
-unfoldable pub curious : List Bool → Host
-curious frame ticks =
-    pick (leb 16 (highsRunning ticks (levelAt frame))) (poll ∷ take-idle ∷ policy On ∷ []) (poll ∷ take-rx ∷ acknowledge ∷ take-idle ∷ policy Off ∷ [])
+module _ (hb : HalfBitBuffer) where
+  abbrev taking : List Call
+  taking = poll ∷ take-rx ∷ acknowledge ∷ take-idle ∷ policy Off ∷ []
 
-lets-hear : (frame : List Bool) → LetsHear frame (curious frame)
-unfolding curious Each isBetween keepsCapture
-lets-hear frame =
-    let keeping : Each keepsCapture (poll ∷ take-idle ∷ policy On ∷ []) = (refl, (refl, (refl, tt))) in
-    record {
-      between = λ ticks. cases (Each isBetween) (leb 16 (highsRunning ticks (levelAt frame))) (λ _. (refl, (refl, (refl, tt)))) (λ _. (refl, (refl, (refl, (refl, (refl, tt))))));
-      no-take = λ ticks whole. rw (on-true (le-leb 16 (highsRunning ticks (levelAt frame)) whole)) keeping;
-    }
+  -- in Rx also a start in vain
+  abbrev trying : List Call
+  trying = start-tx hb ∷ taking
 
--- It does take before that, at the very first tick for one.
-pub takes-at-first : (frame : List Bool) → curious frame 0 ≡ poll ∷ take-rx ∷ acknowledge ∷ take-idle ∷ policy Off ∷ []
-unfolding curious highsRunning pick
-takes-at-first frame = refl
+  -- once the wave is heard whole
+  abbrev leaving : List Call
+  leaving = poll ∷ take-idle ∷ policy On ∷ []
 
-hears-amid : (byte : ℕ) → byte < 256 → (s : DaliBitbangPhy) → Reached s → IsIdle s
-    → let frame = bits-8 byte in HasFrame frame (heardAmid (curious (frameBits frame)) (lastLow (frameBits frame) + 17) (levelAt (frameBits frame)) s)
-hears-amid byte h s reached idle =
-    let frame = bits-8 byte in
-    wave-to-frame-amid frame (one-byte byte h) s reached idle (curious (frameBits frame)) (lets-hear (frameBits frame)) (lastLow (frameBits frame) + 17) (heard-whole (frameBits frame))
+  unfoldable pub curious : List Bool → Host
+  curious frame ticks = pick (leb 16 (highsRunning ticks (levelAt frame))) leaving (pick (ltb ticks 2) taking trying)
 
-pub new-hears-amid : (byte : ℕ) → byte < 256
-    → let frame = bits-8 byte in HasFrame frame (heardAmid (curious (frameBits frame)) (lastLow (frameBits frame) + 17) (levelAt (frameBits frame)) newStation)
-new-hears-amid byte h = hears-amid byte h newStation new new-idle
+  lets-hear : (frame : List Bool) → LetsHear frame (curious frame)
+  unfolding curious Each isBetween keepsRx keepsCapture
+  lets-hear frame =
+      let whole : ℕ → Bool = λ ticks. leb 16 (highsRunning ticks (levelAt frame)) in
+      let keeping : Each keepsCapture leaving = (refl, (refl, (refl, tt))) in
+      record {
+        idle =
+            λ ticks h. rw (on-true (lt-ltb ticks 2 h))
+            (cases (Each isBetween) (whole ticks) (λ _. (refl, (refl, (refl, tt)))) (λ _. (refl, (refl, (refl, (refl, (refl, tt)))))));
+        in-rx =
+            λ ticks. cases (Each keepsRx) (whole ticks) (λ _. (refl, (refl, (refl, tt))))
+            (λ _. cases (Each keepsRx) (ltb ticks 2) (λ _. (refl, (refl, (refl, (refl, (refl, tt)))))) (λ _. (refl, (refl, (refl, (refl, (refl, (refl, tt))))))));
+        ready = λ ticks heard. rw (on-true (le-leb 16 (highsRunning ticks (levelAt frame)) heard)) keeping;
+      }
+
+  -- It does take and start before that: before the first tick, for one, and after the fourth.
+  pub takes-and-starts : (frame : List Bool) → (curious frame 0 ≡ taking) × (curious frame 4 ≡ trying)
+  unfolding curious highsRunning pick levelAt waveOf bitWaves bitWave
+  takes-and-starts frame = (refl, refl)
+
+  -- what a station makes of the wave of a byte of 8 bits
+  abbrev Hears : ℕ → DaliBitbangPhy → Type 0
+  Hears byte s = let frame = bits-8 byte in HasFrame frame (heardAmid (curious (frameBits frame)) (lastLow (frameBits frame) + 17) (levelAt (frameBits frame)) s)
+
+  hears-amid : (byte : ℕ) → byte < 256 → (s : DaliBitbangPhy) → Reached s → IsIdle s → Hears byte s
+  hears-amid byte h s reached idle =
+      let frame = bits-8 byte in
+      let bits = frameBits frame in
+      wave-to-frame-amid frame (one-byte byte h) s reached idle (curious bits) (lets-hear bits) (lastLow bits + 17) (heard-whole bits)
+
+  pub new-hears-amid : (byte : ℕ) → byte < 256 → Hears byte newStation
+  new-hears-amid byte h = hears-amid byte h newStation new new-idle
 
 -- ---- one that holds an earlier capture, which is taken in the middle of the next
 unfoldable pub times : ℕ → Call → List Call → List Call
@@ -133,7 +152,5 @@ holds-noise : let s = afterAll noise newStation in IsIdle s × IsReady s
 unfolding noise times afterAll after newStation newCore tickOf isRx actOf machine.actOf rxTick heardOf idled idleTick entered sampled highRun storedRx filled finishedRx finished tookRx pick
 holds-noise = (refl, refl)
 
-pub hears-after-noise : (byte : ℕ) → byte < 256
-    → let frame = bits-8 byte in
-    HasFrame frame (heardAmid (curious (frameBits frame)) (lastLow (frameBits frame) + 17) (levelAt (frameBits frame)) (afterAll noise newStation))
-hears-after-noise byte h = hears-amid byte h (afterAll noise newStation) (all-reached noise newStation new) (holds-noise .0)
+pub hears-after-noise : (hb : HalfBitBuffer) (byte : ℕ) → byte < 256 → Hears hb byte (afterAll noise newStation)
+hears-after-noise hb byte h = hears-amid hb byte h (afterAll noise newStation) (all-reached noise newStation new) (holds-noise .0)

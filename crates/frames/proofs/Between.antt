@@ -5,11 +5,13 @@ use mathlib.Core.List.{List, [], _∷_}
 use mathlib.Core.Path.{_≡_, refl, _∙_, ap}
 use lib.Dec.{eqb}
 use Rattle.laws.specs.Pick.{pick}
-use Rattle.laws.proofs.Picked.{cases}
+use Rattle.laws.proofs.Picked.{on-false, cases}
 use Rattle.halfbits.specs.declared.HalfBitBuffer.{HalfBitBuffer}
+use Rattle.machine.specs.declared.BusState.the-variants as bus
 use Rattle.machine.specs.declared.RxState.{RxState}
 use Rattle.machine.specs.declared.RxState.the-variants.{Empty, Receiving, Completed}
 use Rattle.fsm.specs.declared.DaliBitbangPhy.{DaliBitbangPhy}
+use Rattle.fsm.specs.declared.Started.{Started}
 use Rattle.fsm.specs.declared.Polled.{Polled}
 use Rattle.fsm.specs.Ticking.{tickOf}
 use Rattle.fsm.specs.Starting.{isIdle, hears, startTx, startAnswer}
@@ -17,7 +19,7 @@ use Rattle.fsm.specs.Polling.{isTx, polled}
 use Rattle.fsm.specs.Calls.{withPolicy, tookIdle, acknowledged, tookRx}
 use Rattle.reached.specs.Calls.{Call, tick, start-tx, start-answer, poll, take-idle, take-rx, acknowledge, policy, after, afterAll, isBetween}
 use Rattle.reached.specs.Ticks.{IsSending, drives, heard, alone}
-use Rattle.frames.specs.Hosts.{heardAmid, aloneAmid, Each, isNoTick, keepsCapture}
+use Rattle.frames.specs.Hosts.{heardAmid, aloneAmid, Each, keepsTx, keepsRx, keepsCapture}
 use Rattle.frames.specs.Amid.{noCalls, NoCalls}
 
 -- ---- one station and another
@@ -52,35 +54,35 @@ markOf s = s .core .told .«rx_state»
 
 -- ---- one call
 module _ (s : DaliBitbangPhy) where
-  polls : Kept s (polled s .station)
+  poll-kept : Kept s (polled s .station)
   unfolding polled
-  polls =
+  poll-kept =
       let P : Polled → Type 0 = λ (x : Polled). Kept s (x .station) in
       cases P (s .core .told .«tx_yielded») (λ _. record { bus = refl; rx = refl; tx = refl; bytes = refl; store = refl; last = refl })
       (λ _. cases P (eqb (s .core .told .«tx_collision») 0) (λ _. cases P (isTx (s .core .bus .«bus_state»)) (λ _. same s) (λ _. same s))
       (λ _. record { bus = refl; rx = refl; tx = refl; bytes = refl; store = refl; last = refl }))
 
-  acknowledges : (mark : RxState) → Kept s (acknowledged mark s)
+  acknowledge-kept : (mark : RxState) → Kept s (acknowledged mark s)
   unfolding acknowledged
-  acknowledges Empty = same s
-  acknowledges Receiving = same s
-  acknowledges Completed = record { bus = refl; rx = refl; tx = refl; bytes = refl; store = refl; last = refl }
+  acknowledge-kept Empty = same s
+  acknowledge-kept Receiving = same s
+  acknowledge-kept Completed = record { bus = refl; rx = refl; tx = refl; bytes = refl; store = refl; last = refl }
 
-  takes : (mark : RxState) → Kept s (tookRx mark s .station)
+  take-kept : (mark : RxState) → Kept s (tookRx mark s .station)
   unfolding tookRx
-  takes Empty = same s
-  takes Receiving = same s
-  takes Completed = acknowledges Completed
+  take-kept Empty = same s
+  take-kept Receiving = same s
+  take-kept Completed = acknowledge-kept Completed
 
   kept : (c : Call) → isBetween c ≡ true → Kept s (after c s)
   unfolding after isBetween tookIdle withPolicy
   kept (tick high) b = absurd (false≢true b)
   kept (start-tx hb) b = absurd (false≢true b)
   kept (start-answer hb) b = absurd (false≢true b)
-  kept poll b = polls
+  kept poll b = poll-kept
   kept take-idle b = record { bus = refl; rx = refl; tx = refl; bytes = refl; store = refl; last = refl }
-  kept take-rx b = takes (markOf s)
-  kept acknowledge b = acknowledges (markOf s)
+  kept take-rx b = take-kept (markOf s)
+  kept acknowledge b = acknowledge-kept (markOf s)
   kept (policy p) b = record { bus = refl; rx = refl; tx = refl; bytes = refl; store = refl; last = refl }
 
   -- nothing to tell
@@ -131,28 +133,52 @@ module _ (s : DaliBitbangPhy) where
   same-mark acknowledge b = absurd (false≢true b)
   same-mark (policy p) b = refl
 
-  -- In Tx a start is refused, so that any call but a tick is of the same kind.
+  -- a start that is refused
+  refused-tx : isIdle (s .core .bus .«bus_state») ≡ false → (hb : HalfBitBuffer) → startTx s hb .station ≡ s
+  unfolding startTx
+  refused-tx busy hb = ap (λ (r : Started). r .station) (on-false busy _ _)
+
+  refused-answer : hears (s .core .bus .«bus_state») ≡ false → (hb : HalfBitBuffer) → startAnswer s hb .station ≡ s
+  unfolding startAnswer
+  refused-answer busy hb = ap (λ (r : Started). r .station) (on-false busy _ _)
+
+  -- In Rx start_tx is.
+  still-in-rx : s .core .bus .«bus_state» ≡ bus.Rx → (c : Call) → keepsRx c ≡ true → Kept s (after c s)
+  unfolding after keepsRx isBetween isIdle
+  still-in-rx in-rx (tick high) b = absurd (false≢true b)
+  still-in-rx in-rx (start-tx hb) b = rw (refused-tx (ap isIdle in-rx) hb) (same s)
+  still-in-rx in-rx (start-answer hb) b = absurd (false≢true b)
+  still-in-rx in-rx poll b = kept poll refl
+  still-in-rx in-rx take-idle b = kept take-idle refl
+  still-in-rx in-rx take-rx b = kept take-rx refl
+  still-in-rx in-rx acknowledge b = kept acknowledge refl
+  still-in-rx in-rx (policy p) b = kept (policy p) refl
+
+  -- In Tx both starts are.
   module _ (sending : IsSending s) (clear : Clear s) where
-    busy-tx : (hb : HalfBitBuffer) → startTx s hb .station ≡ s
-    unfolding startTx isIdle pick
-    busy-tx hb = rw sending
-
-    busy-answer : (hb : HalfBitBuffer) → startAnswer s hb .station ≡ s
-    unfolding startAnswer hears pick
-    busy-answer hb = rw sending
-
-    busy : (c : Call) → isNoTick c ≡ true → Kept s (after c s) × Clear (after c s)
-    unfolding after isNoTick isBetween
-    busy (tick high) b = absurd (false≢true b)
-    busy (start-tx hb) b = rw (busy-tx hb) (same s, clear)
-    busy (start-answer hb) b = rw (busy-answer hb) (same s, clear)
-    busy poll b = (kept poll refl, still-clear poll refl clear)
-    busy take-idle b = (kept take-idle refl, still-clear take-idle refl clear)
-    busy take-rx b = (kept take-rx refl, still-clear take-rx refl clear)
-    busy acknowledge b = (kept acknowledge refl, still-clear acknowledge refl clear)
-    busy (policy p) b = (kept (policy p) refl, still-clear (policy p) refl clear)
+    still-in-tx : (c : Call) → keepsTx c ≡ true → Kept s (after c s) × Clear (after c s)
+    unfolding after keepsTx isBetween isIdle hears
+    still-in-tx (tick high) b = absurd (false≢true b)
+    still-in-tx (start-tx hb) b = rw (refused-tx (ap isIdle sending) hb) (same s, clear)
+    still-in-tx (start-answer hb) b = rw (refused-answer (ap hears sending) hb) (same s, clear)
+    still-in-tx poll b = (kept poll refl, still-clear poll refl clear)
+    still-in-tx take-idle b = (kept take-idle refl, still-clear take-idle refl clear)
+    still-in-tx take-rx b = (kept take-rx refl, still-clear take-rx refl clear)
+    still-in-tx acknowledge b = (kept acknowledge refl, still-clear acknowledge refl clear)
+    still-in-tx (policy p) b = (kept (policy p) refl, still-clear (policy p) refl clear)
 
 -- ---- any list of them
+between : (c : Call) → keepsCapture c ≡ true → isBetween c ≡ true
+unfolding keepsCapture isBetween
+between (tick high) b = b
+between (start-tx hb) b = b
+between (start-answer hb) b = b
+between poll b = refl
+between take-idle b = refl
+between take-rx b = refl
+between acknowledge b = refl
+between (policy p) b = refl
+
 pub all-kept : (cs : List Call) (s : DaliBitbangPhy) → Each isBetween cs → Kept s (afterAll cs s)
 unfolding afterAll Each
 all-kept [] s each = same s
@@ -163,17 +189,29 @@ unfolding afterAll Each
 all-clear [] s each clear = clear
 all-clear (c ∷ cs) s each clear = all-clear cs (after c s) (each .1) (still-clear s c (each .0) clear)
 
+pub all-in-rx : (cs : List Call) (s : DaliBitbangPhy) → s .core .bus .«bus_state» ≡ bus.Rx → Each keepsRx cs → Kept s (afterAll cs s)
+unfolding afterAll Each
+all-in-rx [] s in-rx each = same s
+all-in-rx (c ∷ cs) s in-rx each =
+    let one = still-in-rx s in-rx c (each .0) in
+    on one (all-in-rx cs (after c s) (ap (λ b. b .«bus_state») (one .bus) ∙ in-rx) (each .1))
+
+pub all-between : (cs : List Call) → Each keepsCapture cs → Each isBetween cs
+unfolding Each
+all-between [] each = tt
+all-between (c ∷ cs) each = (between c (each .0), all-between cs (each .1))
+
 pub all-marks : (cs : List Call) (s : DaliBitbangPhy) → Each keepsCapture cs → markOf (afterAll cs s) ≡ markOf s
 unfolding afterAll Each
 all-marks [] s each = refl
 all-marks (c ∷ cs) s each = all-marks cs (after c s) (each .1) ∙ same-mark s c (each .0)
 
-pub all-busy : (cs : List Call) (s : DaliBitbangPhy) → Each isNoTick cs → IsSending s → Clear s → Kept s (afterAll cs s) × Clear (afterAll cs s)
+pub all-in-tx : (cs : List Call) (s : DaliBitbangPhy) → Each keepsTx cs → IsSending s → Clear s → Kept s (afterAll cs s) × Clear (afterAll cs s)
 unfolding afterAll Each
-all-busy [] s each sending clear = (same s, clear)
-all-busy (c ∷ cs) s each sending clear =
-    let (one, clear′) = busy s sending clear c (each .0) in
-    let (others, last) = all-busy cs (after c s) (each .1) (ap (λ b. b .«bus_state») (one .bus) ∙ sending) clear′ in
+all-in-tx [] s each sending clear = (same s, clear)
+all-in-tx (c ∷ cs) s each sending clear =
+    let (one, clear′) = still-in-tx s sending clear c (each .0) in
+    let (others, last) = all-in-tx cs (after c s) (each .1) (ap (λ b. b .«bus_state») (one .bus) ∙ sending) clear′ in
     (on one others, last)
 
 -- ---- no call at all

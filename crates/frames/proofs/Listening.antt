@@ -11,6 +11,7 @@ use lib.ListN.{length, getD}
 use Rattle.laws.specs.Pick.{pick}
 use Rattle.halfbits.specs.Wave.{high, low, levelAt}
 use Rattle.halfbits.proofs.Levels.{bitOf, first-level}
+use Rattle.machine.specs.declared.BusState.the-variants as bus
 use Rattle.fsm.specs.declared.DaliBitbangPhy.{DaliBitbangPhy}
 use Rattle.fsm.specs.declared.LastRx.{LastRx}
 use Rattle.fsm.specs.Ticking.{tickOf}
@@ -20,7 +21,7 @@ use Rattle.reached.specs.Ticks.{IsIdle, highsRunning}
 use Rattle.frames.specs.ReadAs.{Whole, FitsCapture}
 use Rattle.frames.specs.Hosts.{Host, heardAmid, LetsHear}
 use Rattle.reached.proofs.Capturing.{Sampled, Stored, Hearing, Captured, hearing-next, captured-next, captured-stays, first-low, second-low}
-use Rattle.frames.proofs.Between.{Kept, markOf, all-kept, all-marks}
+use Rattle.frames.proofs.Between.{Kept, markOf, all-kept, all-in-rx, all-between, all-marks}
 use Rattle.frames.proofs.Waving.{lastLow, after-last, short, sixteen, runs-on, lowIn-bounds}
 
 -- ---- what is left as it was
@@ -46,24 +47,27 @@ module _ (level : ℕ → Bool) (m : ℕ) {s t : DaliBitbangPhy} (k : Kept s t) 
 module _ (level : ℕ → Bool) (end : ℕ) (room : end ≤ 504) (long : 3 ≤ end)
     (before : (m : ℕ) → m < end → highsRunning m level ≤ 15) (full : highsRunning end level ≡ 16) (stays : (k : ℕ) → end ≤ k → level k ≡ high)
     (later : ℕ → DaliBitbangPhy) (two : Hearing level 2 (later 0))
-    (kept : (n : ℕ) → Kept (tickOf (later n) (level (suc (suc n)))) (later (suc n)))
-    (marked : (n : ℕ) → end ≤ suc (suc (suc n)) → markOf (later (suc n)) ≡ markOf (tickOf (later n) (level (suc (suc n))))) where
+    (hearing-kept : (n : ℕ) → let t = tickOf (later n) (level (suc (suc n))) in t .core .bus .«bus_state» ≡ bus.Rx → Kept t (later (suc n)))
+    (ready-kept : (n : ℕ) → end ≤ suc (suc (suc n))
+    → let t = tickOf (later n) (level (suc (suc n))) in Kept t (later (suc n)) × (markOf (later (suc n)) ≡ markOf t)) where
   still : (n : ℕ) → suc (suc n) < end → Hearing level (suc (suc n)) (later n)
   still zero h = two
   still (suc n) h =
-      hears-on level (suc (suc (suc n))) (kept n)
-      (hearing-next level (suc (suc n)) (later n) (still n (omega arith)) (omega arith) (before (suc (suc n)) (omega arith)) (before (suc (suc (suc n))) h))
+      let next
+      = hearing-next level (suc (suc n)) (later n) (still n (omega arith)) (omega arith) (before (suc (suc n)) (omega arith)) (before (suc (suc (suc n))) h) in
+      hears-on level (suc (suc (suc n))) (hearing-kept n (next .in-rx)) next
 
   caught : (n : ℕ) → suc (suc (suc n)) ≡ end → Captured level end (later (suc n))
   caught n e =
       let c = captured-next level (suc (suc n)) (later n) (still n (omega arith)) (omega arith) (before (suc (suc n)) (omega arith)) (ap (λ m. highsRunning m level) e ∙ full) in
-      subst (λ (m : ℕ). Captured level m (later (suc n))) e (holds-on level (suc (suc (suc n))) (kept n) (marked n (omega arith)) c)
+      subst (λ (m : ℕ). Captured level m (later (suc n))) e (let (kept, mark) = ready-kept n (omega arith) in holds-on level (suc (suc (suc n))) kept mark c)
 
   then : (n : ℕ) → end ≤ suc (suc (suc n)) → (end ≤ suc (suc n) → Captured level end (later n)) → Dec (suc (suc n) < end) → Captured level end (later (suc n))
   then n h held (yes last) = caught n (omega arith)
   then n h held (no past) =
       let e : level (suc (suc n)) ≡ high = stays (suc (suc n)) (omega (arith, past)) in
-      holds-on level end (kept n) (marked n h)
+      let (kept, mark) = ready-kept n h in
+      holds-on level end kept mark
       (subst (λ (l : Bool). Captured level end (tickOf (later n) l)) (sym e) (captured-stays level end (later n) (held (omega (arith, past)))))
 
   pub captures : (n : ℕ) → end ≤ suc (suc n) → Captured level end (later n)
@@ -120,18 +124,27 @@ module _ (frame : List Bool) (fits : FitsCapture frame) where
     abbrev now : ℕ → DaliBitbangPhy
     now n = heardAmid host n level s
 
+    -- ---- its calls
     first-calls : Kept s (now 0)
     unfolding heardAmid
-    first-calls = all-kept (host 0) s (lets .between 0)
+    first-calls = all-kept (host 0) s (lets .idle 0 (omega arith))
 
-    calls : (n : ℕ) → Kept (tickOf (now n) (level n)) (now (suc n))
+    second-calls : Kept (tickOf (now 0) (level 0)) (now 1)
     unfolding heardAmid
-    calls n = all-kept (host (suc n)) (tickOf (now n) (level n)) (lets .between (suc n))
+    second-calls = all-kept (host 1) (tickOf (now 0) (level 0)) (lets .idle 1 (omega arith))
 
-    mark-stays : (n : ℕ) → lastLow frame + 17 ≤ suc n → markOf (now (suc n)) ≡ markOf (tickOf (now n) (level n))
+    calls-in-rx : (n : ℕ) → tickOf (now n) (level n) .core .bus .«bus_state» ≡ bus.Rx → Kept (tickOf (now n) (level n)) (now (suc n))
     unfolding heardAmid
-    mark-stays n h = all-marks (host (suc n)) (tickOf (now n) (level n)) (lets .no-take (suc n) (runs-on frame (suc n) h))
+    calls-in-rx n in-rx = all-in-rx (host (suc n)) (tickOf (now n) (level n)) in-rx (lets .in-rx (suc n))
 
+    last-calls : (n : ℕ) → lastLow frame + 17 ≤ suc n
+        → Kept (tickOf (now n) (level n)) (now (suc n)) × (markOf (now (suc n)) ≡ markOf (tickOf (now n) (level n)))
+    unfolding heardAmid
+    last-calls n h =
+        let each = lets .ready (suc n) (runs-on frame (suc n) h) in
+        (all-kept (host (suc n)) (tickOf (now n) (level n)) (all-between (host (suc n)) each), all-marks (host (suc n)) (tickOf (now n) (level n)) each)
+
+    -- ---- the capture
     -- Idle with so many low ticks remembered, and room for a capture
     abbrev Ready : ℕ → DaliBitbangPhy → Type 0
     Ready fell t = IsIdle t × (t .core .bus .«rx_debounce» ≡ fell) × (length (t .«rx_data») ≡ 64)
@@ -147,7 +160,7 @@ module _ (frame : List Bool) (fits : FitsCapture frame) where
         let r = idles-on 0 s (now 0) first-calls (idle, quiet, whole) in
         let (fell-idle, fell, same) = first-low (now 0) (r .0) (r .1) in
         let one : Ready 1 (tickOf (now 0) (level 0)) = rw first (fell-idle, fell, ap length same ∙ r .2) in
-        let r′ = idles-on 1 (tickOf (now 0) (level 0)) (now 1) (calls 0) one in
+        let r′ = idles-on 1 (tickOf (now 0) (level 0)) (now 1) second-calls one in
         let two : Hearing level 2 (tickOf (now 1) (level 1)) = rw second (second-low level (now 1) (r′ .0) (r′ .1) (r′ .2) first second) in
         record {
           front = 0;
@@ -156,7 +169,7 @@ module _ (frame : List Bool) (fits : FitsCapture frame) where
           ends = omega arith;
           capture
               = captures level (lastLow frame + 17) (omega (arith, enough)) (omega arith) not-yet (sixteen frame) ends-high (λ k. now (suc (suc k)))
-              (hears-on level 2 (calls 1) two) (λ k. calls (suc (suc k))) (λ k. mark-stays (suc (suc k))) n h;
+              (hears-on level 2 (calls-in-rx 1 (two .in-rx)) two) (λ k. calls-in-rx (suc (suc k))) (λ k. last-calls (suc (suc k))) n h;
         }
 
     -- its first tick does, if the one before was low
@@ -172,7 +185,7 @@ module _ (frame : List Bool) (fits : FitsCapture frame) where
           ends = omega arith;
           capture
               = captures (late 1 level) (suc (lastLow frame + 17)) (omega (arith, enough)) (omega arith) not-yet-late (highs-late level (lastLow frame + 17) ∙ sixteen frame)
-              ends-high-late (λ k. now (suc k)) (hears-on (late 1 level) 2 (calls 0) two) (λ k. calls (suc k)) (λ k p. mark-stays (suc k) (omega arith)) n (omega arith);
+              ends-high-late (λ k. now (suc k)) (hears-on (late 1 level) 2 (calls-in-rx 0 (two .in-rx)) two) (λ k. calls-in-rx (suc k)) (λ k p. last-calls (suc k) (omega arith)) n (omega arith);
         }
 
     either-way : (ticks : ℕ) → lastLow frame + 17 ≤ ticks → s .core .bus .«rx_debounce» ≤ 1 → Dec (s .core .bus .«rx_debounce» < 1) → Caught frame (now ticks)

@@ -104,7 +104,7 @@ wave-to-bits-amid frame fits s reached idle host lets ticks whole =
 -- a host that makes no call
 pub lets-hear : (frame : List Bool) → LetsHear frame noCalls
 unfolding Each
-lets-hear frame = record { between = λ ticks. tt; no-take = λ ticks h. tt }
+lets-hear frame = record { idle = λ ticks h. tt; in-rx = λ ticks. tt; ready = λ ticks h. tt }
 
 pub wave-to-bits : WaveToBits
 wave-to-bits frame fits s reached idle ticks whole =

@@ -77,6 +77,11 @@ says-transmitting : {bits : List Bool} {policy : CollisionPolicy} {ticks j left 
 unfolding polled isTx pick
 says-transmitting a = rw (a .clear .1, a .clear .0, a .state)
 
+refuses : (s : DaliBitbangPhy) → IsSending s → (by : Start) (hb : HalfBitBuffer) → startedBy by s hb .answer ≡ start.Busy
+unfolding startedBy startTx startAnswer isIdle hears pick
+refuses s sending by-start-tx hb = rw sending
+refuses s sending by-start-answer hb = rw sending
+
 says-ok : (s : DaliBitbangPhy) → Rests s → polled s .answer ≡ Ok
 unfolding polled isTx pick
 says-ok s r = rw (r .2 .1, r .2 .0, r .0)
@@ -115,6 +120,7 @@ module _ (bits : List Bool) (fits : FitsBuffer bits) (at : ℕ → DaliBitbangPh
     wave = λ p. wave p (decLt (lastTick bits) p);
     sending = λ tick h. sending tick h (decLt tick 4) .0;
     unfinished = λ tick h. sending tick h (decLt tick 4) .1;
+    busy = λ tick h. refuses (at tick s) (sending tick h (decLt tick 4) .0);
     idle = λ tick h. resting tick h .0;
     sent = λ tick h. says-ok _ (resting tick h);
   }
@@ -145,8 +151,8 @@ sends-amid : (bits : List Bool) {policy : CollisionPolicy} → FitsBuffer bits �
     → (host : Host) → LetsSend (length bits) host → SendsAt bits (aloneAmid host) s
 unfolding aloneAmid
 sends-amid bits fits s a host lets =
-    sends-all bits fits (aloneAmid host) s (λ n. aloneAmid host n s .core .«collision_policy») (sends-on (host 0) (lets .no-tick 0) a)
-    (λ n ticks j left level b. sends-on (host (suc n)) (lets .no-tick (suc n)) b) (λ n h r. rests-on (host (suc n)) _ (lets .no-start (suc n) h) r)
+    sends-all bits fits (aloneAmid host) s (λ n. aloneAmid host n s .core .«collision_policy») (sends-on (host 0) (lets .in-tx 0) a)
+    (λ n ticks j left level b. sends-on (host (suc n)) (lets .in-tx (suc n)) b) (λ n h r. rests-on (host (suc n)) _ (lets .idle (suc n) h) r)
 
 -- ---- the start
 isAnswer : Start → Bool

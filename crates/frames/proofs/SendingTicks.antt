@@ -31,8 +31,8 @@ use Rattle.fsm.specs.Ticking.{isRx, actOf, tickOf}
 use Rattle.reached.specs.Ticks.{drives, IsIdle, IsSending}
 use Rattle.reached.specs.Calls.{Call, afterAll, isBetween}
 use Rattle.frames.specs.Sends.{FitsBuffer}
-use Rattle.frames.specs.Hosts.{Each, isNoTick}
-use Rattle.frames.proofs.Between.{Kept, Clear, all-kept, all-clear, all-busy}
+use Rattle.frames.specs.Hosts.{Each, keepsTx}
+use Rattle.frames.proofs.Between.{Kept, Clear, all-kept, all-clear, all-in-tx}
 
 -- ---- a half-bit of the store
 is-zero : (b : Bool) → eqb (bit b) 0 ≡ not b
@@ -199,9 +199,9 @@ moved k clear a = record {
   clear = clear;
 }
 
-pub sends-on : {bits : List Bool} {policy : CollisionPolicy} {ticks j left : ℕ} {level : Bool} (cs : List Call) {s : DaliBitbangPhy} → Each isNoTick cs
+pub sends-on : {bits : List Bool} {policy : CollisionPolicy} {ticks j left : ℕ} {level : Bool} (cs : List Call) {s : DaliBitbangPhy} → Each keepsTx cs
     → Sender bits policy ticks j left level s → let t = afterAll cs s in Sender bits (t .core .«collision_policy») ticks j left level t
-sends-on cs {s} each a = let (k, clear) = all-busy cs s each (a .state) (a .clear) in moved k clear a
+sends-on cs {s} each a = let (k, clear) = all-in-tx cs s each (a .state) (a .clear) in moved k clear a
 
 pub rests-on : (cs : List Call) (s : DaliBitbangPhy) → Each isBetween cs → Rests s → Rests (afterAll cs s)
 rests-on cs s each r =

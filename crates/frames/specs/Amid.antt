@@ -17,8 +17,8 @@ use Rattle.frames.specs.Sends.{Start, startedBy, MayStart, FitsBuffer, S
 use Rattle.frames.specs.ReadAs.{Whole, FitsCapture, HasBits, HasFrame}
 use Rattle.frames.specs.Hosts.{Host, heardAmid, aloneAmid, LetsSend, LetsHear}
 
--- Each says of a station what holds behind all calls that follow a tick, and so behind any of them, since another host stops there: a poll
--- that is among them tells that too, and a take.
+-- Each speaks of the station after a tick and all the calls that follow it. It holds after some of these calls too, since another host
+-- stops there: so every poll among them tells the same, and every take gives the same.
 
 -- ---- from frame to wave
 -- The start is not refused, and the frame is sent amid the host's calls.

@@ -1,5 +1,5 @@
 -- A host at work in the middle of a frame: the calls that it makes between the ticks of a station. Assumes nothing.
-use Prim.Native.Nat.{ℕ, zero, suc, _≤_}
+use Prim.Native.Nat.{ℕ, zero, suc, _≤_, _<_}
 use mathlib.Core.Bool.{Bool, true, false}
 use mathlib.Core.List.{List, [], _∷_}
 use mathlib.Core.Path.{_≡_}
@@ -31,17 +31,29 @@ unfoldable pub Each : (Call → Bool) → List Call → Type 0
 Each kind [] = Unit {0}
 Each kind (c ∷ cs) = (kind c ≡ true) × Each kind cs
 
-unfoldable pub isNoTick : Call → Bool
-isNoTick (tick high) = false
-isNoTick (start-tx hb) = true
-isNoTick (start-answer hb) = true
-isNoTick poll = true
-isNoTick take-idle = true
-isNoTick take-rx = true
-isNoTick acknowledge = true
-isNoTick (policy p) = true
+-- What leaves a station in Tx sending: any call but a tick, since starts are refused.
+unfoldable pub keepsTx : Call → Bool
+keepsTx (tick high) = false
+keepsTx (start-tx hb) = true
+keepsTx (start-answer hb) = true
+keepsTx poll = true
+keepsTx take-idle = true
+keepsTx take-rx = true
+keepsTx acknowledge = true
+keepsTx (policy p) = true
 
--- a call that neither takes nor acknowledges a capture that is ready, and starts nothing
+-- What leaves a station in Rx hearing: start_tx is refused there, start_answer is not.
+unfoldable pub keepsRx : Call → Bool
+keepsRx (tick high) = false
+keepsRx (start-tx hb) = true
+keepsRx (start-answer hb) = false
+keepsRx poll = true
+keepsRx take-idle = true
+keepsRx take-rx = true
+keepsRx acknowledge = true
+keepsRx (policy p) = true
+
+-- What leaves a capture ready: neither a take nor an acknowledgement, nor a start, which drops it.
 unfoldable pub keepsCapture : Call → Bool
 keepsCapture (tick high) = false
 keepsCapture (start-tx hb) = false
@@ -52,14 +64,14 @@ keepsCapture take-rx = false
 keepsCapture acknowledge = false
 keepsCapture (policy p) = true
 
--- While the station sends so many bits, the host may make any call but a tick; starts are refused. Once it is Idle again, a start would be
--- taken: none is made.
+-- A host that lets a station send so many bits. Once it is Idle again, the host starts nothing.
 pub record LetsSend (bits : ℕ) (host : Host) : Type 0 where
-  pub no-tick : (ticks : ℕ) → Each isNoTick (host ticks)
-  pub no-start : (ticks : ℕ) → idleAt bits ≤ ticks → Each isBetween (host ticks)
+  pub in-tx : (ticks : ℕ) → Each keepsTx (host ticks)
+  pub idle : (ticks : ℕ) → idleAt bits ≤ ticks → Each isBetween (host ticks)
 
--- While the station hears a wave, the host may poll, take, acknowledge and set the policy. Once the wave has been heard whole, the capture
--- is ready, and a take would have it: none is made.
+-- A host that lets a station hear a wave, whose second tick starts Rx at the latest. Before that the host starts nothing, and once the wave
+-- has been heard whole it leaves the capture.
 pub record LetsHear (frame : List Bool) (host : Host) : Type 0 where
-  pub between : (ticks : ℕ) → Each isBetween (host ticks)
-  pub no-take : (ticks : ℕ) → Whole frame ticks → Each keepsCapture (host ticks)
+  pub idle : (ticks : ℕ) → ticks < 2 → Each isBetween (host ticks)
+  pub in-rx : (ticks : ℕ) → Each keepsRx (host ticks)
+  pub ready : (ticks : ℕ) → Whole frame ticks → Each keepsCapture (host ticks)

@@ -44,12 +44,14 @@ idleAt bits = 8 * bits + 25
 
 -- ---- what is driven
 -- A started station drives three high ticks and then, from tick 4 on, the wave and nothing else; tick 0 is the start itself. It is sending
--- until it is Idle again, and a poll tells so. (`at`: the station after so many ticks, each of which samples the level that it drives.)
+-- until it is Idle again: a poll tells so, and another start is refused. (`at`: the station after so many ticks, each of which samples the
+-- level that it drives.)
 pub record SendsAt (bits : List Bool) (at : ℕ → DaliBitbangPhy → DaliBitbangPhy) (s : DaliBitbangPhy) : Type 0 where
   pub armed : (tick : ℕ) → tick < 4 → drives (at tick s) ≡ high
   pub wave : (tick : ℕ) → drives (at (4 + tick) s) ≡ levelAt bits tick
   pub sending : (tick : ℕ) → tick < idleAt (length bits) → IsSending (at tick s)
   pub unfinished : (tick : ℕ) → tick < idleAt (length bits) → polled (at tick s) .answer ≡ Transmitting
+  pub busy : (tick : ℕ) → tick < idleAt (length bits) → (by : Start) (hb : HalfBitBuffer) → startedBy by (at tick s) hb .answer ≡ start.Busy
   pub idle : (tick : ℕ) → idleAt (length bits) ≤ tick → IsIdle (at tick s)
   pub sent : (tick : ℕ) → idleAt (length bits) ≤ tick → polled (at tick s) .answer ≡ Ok
 
