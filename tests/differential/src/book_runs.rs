@@ -184,7 +184,7 @@ impl<'a> Held<'a> {
     }
 }
 
-fn report(name: &str, book: &[u8], difference: &Difference) {
+pub fn report(name: &str, book: &[u8], difference: &Difference) {
     let lines: Vec<&[u8]> = book.split(|byte| *byte == b'\n').collect();
     let line = match lines.get(difference.line) {
         Some(line) if difference.line + 1 < lines.len() || !line.is_empty() => line,

@@ -39,6 +39,7 @@ mod stored_encoder;
 mod stored_line;
 mod stored_readings;
 mod stored_station;
+mod uneven;
 
 // The unchanged files name each other from the crate's root.
 use original::{fsm, manchester, phy};
@@ -69,6 +70,8 @@ const USAGE: &str = "usage:
   differential sample                                 writes a gateway's day on the bench
   differential books --reader PROGRAM --lines N --seed S [--cuts K] [--batch B]
                                                       books of B lines, N in all; the edge book at K places
+  differential uneven --frames N [--seed S] [--reader PROGRAM]
+                                                      how frames with uneven edges are read, N of a kind at random
 KIND is decoders, readings, encoder, station, station-long, line or a command's name.";
 
 const USUAL_BATCH: usize = 50_000;
@@ -156,6 +159,11 @@ fn run(words: &[String]) -> Result<bool, String> {
             options.allow(&["--reader", "--lines", "--seed", "--cuts", "--batch"])?;
             let task = options.books_task()?;
             book_runs::run(&task).map_err(|error| format!("{}: {error}", task.program))
+        }
+        "uneven" => {
+            options.allow(&["--frames", "--seed", "--reader"])?;
+            let task = options.uneven_task()?;
+            uneven::run(&task).map_err(|error| error.to_string())
         }
         _ => Err(format!("there is no command {verb}\n{USAGE}")),
     }
@@ -307,6 +315,14 @@ impl<'a> Options<'a> {
             lines: self.lines()?,
             batch: self.batch(USUAL_BOOK_LINES)?,
             cuts,
+        })
+    }
+
+    fn uneven_task(&self) -> Result<uneven::Task, String> {
+        Ok(uneven::Task {
+            seed: self.number_or("--seed", USUAL_SEED)?,
+            frames: Self::positive("--frames", self.text("--frames")?)?,
+            reader: self.find("--reader").map(str::to_string),
         })
     }
 
