@@ -82,7 +82,8 @@ endText lines decoded refused =
     (69 ∷ 78 ∷ 68 ∷ []) ++ tab ++ decimalOf lines ++ tab ++ decimalOf decoded ++ tab ++ decimalOf refused ++ lf
 
 -- ---- into a lent buffer
--- A line is written at a place of the buffer where the longest of its kind would fit there. Else nothing is written, and the place stays.
+-- A line is written at a place of the buffer if there is room for every line of its kind: 46 bytes for a row (the longest has 45), 17 for a
+-- BAD line and 37 for an END line. Else nothing is written, and the place stays.
 abbrev pub fitsAt : ℕ → ℕ → List ℕ → Bool
 fitsAt longest place buffer = leb (place + longest) (length buffer)
 

@@ -1,5 +1,5 @@
 // An answer line of the bench reader (document 01, "The bench reader"), written into a lent buffer from a place on. Each function answers the place past what it wrote. The public ones write
-// nothing where the longest line of their kind would not fit.
+// nothing where there is not room for every line of their kind.
 ghost use mathlib.Core.Path.{_≡_};
 ghost use mathlib.Core.List.{[], _∷_};
 ghost use Prim.Native.Nat.{_+_, _<_, _≤_};
@@ -13,7 +13,7 @@ use fsm::PHY_TICK_US;
 use rx_decode::SniffedDecode;
 use rx_decode::SniffedFrame;
 
-// The longest row, BAD line and END line, with ten digits for every number of 32 bits.
+// Room for a row, a BAD line and an END line. With ten digits for every number of 32 bits the longest have 45, 17 and 37 bytes.
 pub const ROW_MAX: usize = 46;
 
 pub const BAD_MAX: usize = 17;

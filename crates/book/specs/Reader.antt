@@ -96,7 +96,7 @@ lastWords r =
     pick (isFull r) (countsText (r .counts))
     (pick (eqb (r .len) 0) (countsText (r .counts)) (endedText r ++ countsText (ended r .counts)))
 
--- 83 bytes are always room enough: a row of 46, and an END line of 37
+-- 83 bytes are always room enough: 46 for a row (the longest has 45), and 37 for an END line
 unfoldable pub finished : BookReader → ℕ → Said
 finished r room = pick (leb 83 room) (Bytes (length (lastWords r))) NoRoom
 
