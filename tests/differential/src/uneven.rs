@@ -24,7 +24,7 @@ const QUIET_TICKS: usize = 8;
 const BOOK_LINES: usize = 100_000;
 
 const HEADING: &str = "\
-| bits | runs off by one tick | frames | right | another frame of the same length | a frame of another length | `LEN` | `FAIL` |
+| bits | runs off by one tick | waves | right | another frame of the same length | a frame of another length | `LEN` | `FAIL` |
 |---|---|---|---|---|---|---|---|";
 const SCORES_HEADING: &str = "\
 | bits | runs off by one tick | another frame lacks at least | right ones that lack less |
