@@ -163,7 +163,8 @@ fn run(words: &[String]) -> Result<bool, String> {
         "uneven" => {
             options.allow(&["--frames", "--seed", "--reader"])?;
             let task = options.uneven_task()?;
-            uneven::run(&task).map_err(|error| error.to_string())
+            let same = uneven::run(&task);
+            same.or_else(|error| quiet_on_closed_pipe(Err(error)))
         }
         _ => Err(format!("there is no command {verb}\n{USAGE}")),
     }

@@ -1,7 +1,7 @@
 //! How often a frame with uneven edges is read as another one: the waves of frames with one, two or all runs of ticks off by one, heard by
 //! a station of the Rust that is Idle, and what the Rust reads from its captures. A bench reader can be held to the same captures.
 
-use std::io;
+use std::io::{self, Write};
 use std::iter::repeat_n;
 use std::process::Stdio;
 use std::sync::Arc;
@@ -42,7 +42,8 @@ pub struct Task {
 pub fn run(task: &Task) -> io::Result<bool> {
     let began = Instant::now();
     let (mut waves, mut scores) = (0, String::new());
-    println!("{HEADING}");
+    let mut output = io::stdout();
+    writeln!(output, "{HEADING}")?;
     for kind in KINDS {
         let mut bench = Bench::new(task, kind);
         kind.each_wave(task, |data, runs| bench.hear(data, runs))?;
@@ -50,18 +51,19 @@ pub fn run(task: &Task) -> io::Result<bool> {
         if bench.differs {
             return Ok(false);
         }
-        println!("{}", kind.row(&bench.tally));
+        writeln!(output, "{}", kind.row(&bench.tally))?;
         scores += &kind.scores_row(&bench.tally);
         waves += bench.tally.waves();
     }
-    println!("\n{SCORES_HEADING}\n{scores}");
+    writeln!(output, "\n{SCORES_HEADING}\n{scores}")?;
     let held = match &task.reader {
         Some(_) => "; the program answers all of their captures as the Rust does",
         None => "",
     };
     let seconds = began.elapsed().as_secs_f64();
     let waves = grouped(waves);
-    println!("seed {}: {waves} waves in {seconds:.1} s{held}", task.seed);
+    let seed = task.seed;
+    writeln!(output, "seed {seed}: {waves} waves in {seconds:.1} s{held}")?;
     Ok(true)
 }
 
