@@ -1,4 +1,4 @@
--- What a station makes of the levels that it samples: one law for each tick, whatever the levels are. Assumes nothing.
+-- What a station makes of the levels that it samples: one law for each tick, whatever the levels are and however many. Assumes nothing.
 use Prim.Native.Nat.{ℕ, suc, _+_, _-_, _*_, _/_, _%_, _<_, _≤_, min}
 use native.Mathlib.Omega.{arith}
 use native.Mathlib.Decide.{decLt}
@@ -28,7 +28,28 @@ use Rattle.fsm.specs.declared.DaliBitbangPhy.{DaliBitbangPhy}
 use Rattle.fsm.specs.Station.{stationOf}
 use Rattle.fsm.specs.Receiving.{filled, finishedRx, storedRx}
 use Rattle.fsm.specs.Ticking.{isRx, actOf, tickOf}
-use Rattle.reached.specs.Ticks.{IsIdle, highsRunning}
+use Rattle.reached.specs.Ticks.{IsIdle, IsCapturing, highsRunning}
+use Rattle.reached.specs.OverTicks as over
+use Rattle.reached.specs.OverTicks.{idleCount, byteOf, Store, NoLow}
+use Rattle.reached.proofs.Between.{Same}
+use Rattle.reached.proofs.ByState.{tick-rx}
+
+-- ---- the position
+moves-on : (m at bits : ℕ) → at ≡ min (m / 8) 63 → bits ≡ m % 8 → bits ≡ 7 → min (at + 1) 63 ≡ min (suc m / 8) 63
+moves-on m at bits e f g =
+    let next : suc m / 8 ≡ suc (m / 8) = omega (arith, f, g) in
+    rw (e, next) (climbs (m / 8))
+  where
+    climbs : (q : ℕ) → min (min q 63 + 1) 63 ≡ min (suc q) 63
+    climbs q = omega arith
+
+stays-there : (m at bits : ℕ) → at ≡ min (m / 8) 63 → bits ≡ m % 8 → (bits ≡ 7 → ⊥) → at ≡ min (suc m / 8) 63
+stays-there m at bits e f g =
+    let same : suc m / 8 ≡ m / 8 = omega (arith, f, g) in
+    rw same e
+
+pinned : (q at : ℕ) → at ≡ min q 63 → min at 63 ≡ min q 63
+pinned q at e = rw e (omega arith)
 
 module _ (level : ℕ → Bool) where
   abbrev pub digit : ℕ → ℕ
@@ -36,12 +57,12 @@ module _ (level : ℕ → Bool) where
 
   -- ---- the counters of a capture, with m levels sampled
   pub record Sampled (m : ℕ) (r : Rx) : Type 0 where
-    pub pos : r .«rx_pos» ≡ m / 8
+    pub pos : r .«rx_pos» ≡ min (m / 8) 63
     pub count : r .«rx_bit_cnt» ≡ m % 8
     pub byte : r .«rx_byte» ≡ packed 2 m digit % 256
     pub idle : r .«rx_idle» ≡ highsRunning m level
 
-  module _ (m : ℕ) (r : Rx) (h : Sampled m r) (room : m < 504) where
+  module _ (m : ℕ) (r : Rx) (h : Sampled m r) where
     next-byte : shifted r (level m) ≡ packed 2 (suc m) digit % 256
     unfolding packed
     next-byte = rw (h .byte) (omega (arith, bit-lt (level m)))
@@ -56,127 +77,193 @@ module _ (level : ℕ → Bool) where
         cases (Sampled (suc m)) (eqb (r .«rx_bit_cnt») 7)
         (λ e.
         let c : r .«rx_bit_cnt» ≡ 7 = eqb-true _ _ e in
-        record { pos = omega (arith, h .pos, h .count, c); count = omega (arith, h .count, c); byte = next-byte; idle = next-idle few })
+        record { pos = moves-on m _ _ (h .pos) (h .count) c; count = omega (arith, h .count, c); byte = next-byte; idle = next-idle few })
         (λ e.
         let c : r .«rx_bit_cnt» ≡ 7 → ⊥ = eqb-false _ _ e in
-        record { pos = omega (arith, h .pos, h .count, c); count = omega (arith, h .count, c); byte = next-byte; idle = next-idle few })
+        record { pos = stays-there m _ _ (h .pos) (h .count) c; count = omega (arith, h .count, c); byte = next-byte; idle = next-idle few })
 
-  -- ---- its bytes, of which n are written
-  pub record Stored (n : ℕ) (bytes : List ℕ) : Type 0 where
-    pub whole : length bytes ≡ 64
-    pub each : (i : ℕ) → i < n → getD bytes i 0 ≡ packed 2 8 (λ j. digit (8 * i + j))
-
+  -- ---- its bytes
   -- the eight levels last sampled
-  last-eight : (m q : ℕ) → 8 * q + 8 ≡ m → packed 2 m digit % 256 ≡ packed 2 8 (λ j. digit (8 * q + j))
+  last-eight : (m q : ℕ) → 8 * q + 8 ≡ m → packed 2 m digit % 256 ≡ byteOf level q
   last-eight m q e = ap (λ x. x % 256) (sym (div-one (packed 2 m digit))) ∙ packed-part m (8 * q) 8 0 digit (omega arith) (λ i. bit-lt (level i))
 
-  module _ (m : ℕ) (r : Rx) (h : Sampled m r) (room : m < 504) (bytes : List ℕ) (written : Stored (m / 8) bytes) where
-    eighth-stored : r .«rx_bit_cnt» ≡ 7 → Stored (suc m / 8) (set bytes (min (r .«rx_pos») 63) (shifted r (level m)))
-    eighth-stored c =
-        let at : min (r .«rx_pos») 63 ≡ m / 8 = omega (arith, h .pos) in
-        let last : 8 * (m / 8) + 8 ≡ suc m = omega (arith, h .count) in
-        rw (at, next-byte m r h room, last-eight (suc m) (m / 8) last) (record {
-          whole = length-set bytes (m / 8) _ ∙ written .whole;
-          each = λ i p. go i p (decLt i (m / 8));
-        })
+  module _ (before : List ℕ) (bytes : List ℕ) where
+    -- a byte is written at its place, or over slot 63
+    written : (q : ℕ) → Store before level q bytes → Store before level (suc q) (set bytes (min q 63) (byteOf level q))
+    written q h = record { whole = length-set bytes (min q 63) _ ∙ h .whole; first = λ i p small. first-kept i p small (decLt i q); last = last-kept; rest = rest-kept }
       where
-        go : (i : ℕ) → i < suc m / 8 → Dec (i < m / 8) → getD (set bytes (m / 8) (packed 2 8 (λ j. digit (8 * (m / 8) + j)))) i 0 ≡ packed 2 8 (λ j. digit (8 * i + j))
-        go i p (yes before) = getD-set-other bytes (m / 8) i _ 0 (λ e. let here : ⊥ = omega arith in here) ∙ written .each i before
-        go i p (no after) = let e : i ≡ m / 8 = omega (arith, after) in rw e (getD-set-same bytes (m / 8) _ 0 (omega (arith, written .whole)))
+        first-kept : (i : ℕ) → i < suc q → i < 63 → Dec (i < q) → getD (set bytes (min q 63) (byteOf level q)) i 0 ≡ byteOf level i
+        first-kept i p small (yes early) = getD-set-other bytes (min q 63) i _ 0 (λ e. let here : ⊥ = omega arith in here) ∙ h .first i early small
+        first-kept i p small (no late) =
+            let e : i ≡ q = omega (arith, late) in
+            let at : min q 63 ≡ q = omega (arith, e) in
+            rw (at, e) (getD-set-same bytes q _ 0 (omega (arith, h .whole, e)))
 
-    pub filled-next : Stored (suc m / 8) (filled bytes r (level m))
-    unfolding filled
-    filled-next =
-        cases (Stored (suc m / 8)) (eqb (r .«rx_bit_cnt») 7) (λ e. eighth-stored (eqb-true _ _ e))
-        (λ e. let c : r .«rx_bit_cnt» ≡ 7 → ⊥ = eqb-false _ _ e in let same : suc m / 8 ≡ m / 8 = omega (arith, h .count, c) in rw same written)
+        last-kept : (i : ℕ) → i + 1 ≡ suc q → 63 ≤ i → getD (set bytes (min q 63) (byteOf level q)) 63 0 ≡ byteOf level i
+        last-kept i e past =
+            let same : i ≡ q = omega arith in
+            let at : min q 63 ≡ 63 = omega arith in
+            rw (at, same) (getD-set-same bytes 63 _ 0 (omega (arith, h .whole)))
 
-  -- a byte that is written behind them
-  pub behind : (n at : ℕ) (bytes : List ℕ) (byte : ℕ) → Stored n bytes → n ≤ at → Stored n (set bytes at byte)
-  behind n at bytes byte h past = record {
-    whole = length-set bytes at byte ∙ h .whole;
-    each = λ i p. getD-set-other bytes at i byte 0 (λ e. let here : ⊥ = omega arith in here) ∙ h .each i p;
-  }
+        rest-kept : (i : ℕ) → suc q ≤ i → getD (set bytes (min q 63) (byteOf level q)) i 0 ≡ getD before i 0
+        rest-kept i past = getD-set-other bytes (min q 63) i _ 0 (λ e. let here : ⊥ = omega arith in here) ∙ h .rest i (omega arith)
 
-  here : (n at : ℕ) (bytes : List ℕ) (byte : ℕ) → Stored n bytes → at ≡ n → n < 64 → getD (set bytes at byte) n 0 ≡ byte
-  here n at bytes byte h e within = rw e (getD-set-same bytes n byte 0 (omega (arith, h .whole)))
+    module _ (m : ℕ) (r : Rx) (h : Sampled m r) (stored : Store before level (m / 8) bytes) where
+      eighth-stored : r .«rx_bit_cnt» ≡ 7 → Store before level (suc m / 8) (set bytes (min (r .«rx_pos») 63) (shifted r (level m)))
+      eighth-stored c =
+          let at : min (r .«rx_pos») 63 ≡ min (m / 8) 63 = pinned (m / 8) _ (h .pos) in
+          let last : 8 * (m / 8) + 8 ≡ suc m = omega (arith, h .count) in
+          let next : suc m / 8 ≡ suc (m / 8) = omega (arith, h .count) in
+          rw (next, at, next-byte m r h, last-eight (suc m) (m / 8) last) (written (m / 8) stored)
+
+      pub filled-next : Store before level (suc m / 8) (filled bytes r (level m))
+      unfolding filled
+      filled-next =
+          cases (Store before level (suc m / 8)) (eqb (r .«rx_bit_cnt») 7) (λ e. eighth-stored (eqb-true _ _ e))
+          (λ e. let c : r .«rx_bit_cnt» ≡ 7 → ⊥ = eqb-false _ _ e in let same : suc m / 8 ≡ m / 8 = omega (arith, h .count, c) in rw same stored)
 
 -- ---- a tick in Rx
-module _ (s : DaliBitbangPhy) (high : Bool) (in-rx : s .core .bus .«bus_state» ≡ bus.Rx) where
-  tick-rx : tickOf s high ≡ storedRx s (heardOf (s .core) high) high
-  unfolding tickOf actOf isRx pick
-  tick-rx = rw in-rx
-
+module _ (s : DaliBitbangPhy) (high : Bool) (in-rx : IsCapturing s) where
   tick-on : goesOn (sampled (s .core .rx) high) ≡ true
       → tickOf s high ≡ stationOf (withRx (heardOf (s .core) high) (sampled (s .core .rx) high)) (filled (s .«rx_data») (s .core .rx) high) (s .«tx_hb») (s .«last_rx»)
   unfolding storedRx rxTick heardOf
-  tick-on e = tick-rx ∙ simp (on-true e)
+  tick-on e = tick-rx s high in-rx ∙ simp (on-true e)
 
   tick-end : goesOn (sampled (s .core .rx) high) ≡ false
       → tickOf s high ≡ finishedRx s (finished (heardOf (s .core) high) (sampled (s .core .rx) high)) (sampled (s .core .rx) high) (filled (s .«rx_data») (s .core .rx) high)
   unfolding storedRx rxTick heardOf
-  tick-end e = tick-rx ∙ simp (on-false e)
+  tick-end e = tick-rx s high in-rx ∙ simp (on-false e)
 
-module _ (level : ℕ → Bool) where
-  -- a station in Rx that has sampled m levels
-  pub record Hearing (m : ℕ) (s : DaliBitbangPhy) : Type 0 where
-    pub in-rx : s .core .bus .«bus_state» ≡ bus.Rx
+-- the silence before a capture stays with it
+pre-kept : (r : Rx) (high : Bool) → sampled r high .«rx_pre_idle» ≡ r .«rx_pre_idle»
+unfolding sampled
+pre-kept r high = cases (λ (x : Rx). x .«rx_pre_idle» ≡ r .«rx_pre_idle») (eqb (r .«rx_bit_cnt») 7) (λ _. refl) (λ _. refl)
+
+-- a station whose capture is over is Idle, and remembers no low
+at-rest : (s : DaliBitbangPhy) (high : Bool) (r : Rx) (bytes : List ℕ) → NoLow (finishedRx s (finished (heardOf (s .core) high) r) r bytes)
+unfolding finishedRx finished idled heardOf tickOf actOf isRx machine.actOf idleTick pick
+at-rest s high r bytes = record { idle = refl; alone = refl }
+
+-- the end: 0xFF at the position
+ended : (s : DaliBitbangPhy) (high : Bool) (r : Rx) (bytes : List ℕ) (base : DaliBitbangPhy) (level : ℕ → Bool) (m : ℕ)
+    → r .«rx_pos» ≡ min (m / 8) 63 → Store (base .«rx_data») level (m / 8) bytes → r .«rx_pre_idle» ≡ min (idleCount base) 255
+    → over.Captured base level m (finishedRx s (finished (heardOf (s .core) high) r) r bytes)
+unfolding finishedRx finished idled
+ended s high r bytes base level m at b pre = record {
+  idle = at-rest s high r bytes;
+  whole = length-set bytes _ 255 ∙ b .whole;
+  ready = refl;
+  count = rw at (plain (m / 8));
+  first = λ i p small. rw at (getD-set-other bytes (min (m / 8) 63) i 255 0 (λ e. let here : ⊥ = omega arith in here) ∙ b .first i p small);
+  end = rw at (getD-set-same bytes (min (m / 8) 63) 255 0 (let within : min (m / 8) 63 < length bytes = omega (arith, b .whole) in within));
+  rest = λ i past. rw at (getD-set-other bytes (min (m / 8) 63) i 255 0 (λ e. let here : ⊥ = omega arith in here) ∙ b .rest i (omega arith));
+  silence = pre;
+  stays = refl;
+}
+  where
+    plain : (q : ℕ) → min (min q 63 + 1) 65535 ≡ min q 63 + 1
+    plain q = omega arith
+
+-- `base` is the station before the capture, and s has sampled m levels of it
+module _ (base : DaliBitbangPhy) (level : ℕ → Bool) where
+  pub record HearingOn (m : ℕ) (s : DaliBitbangPhy) : Type 0 where
+    pub in-rx : IsCapturing s
     pub counters : Sampled level m (s .core .rx)
-    pub bytes : Stored level (m / 8) (s .«rx_data»)
+    pub store : Store (base .«rx_data») level (m / 8) (s .«rx_data»)
+    pub silence : s .core .rx .«rx_pre_idle» ≡ min (idleCount base) 255
 
-  -- a station that has made a capture of m of them: the last sixteen were high, and what is not a whole byte is an idle one
-  pub record Captured (m : ℕ) (s : DaliBitbangPhy) : Type 0 where
-    pub idle : IsIdle s
-    pub ready : s .core .told .«rx_state» ≡ Completed
-    pub count : s .«last_rx» .«sample_count» ≡ m / 8 + 1
-    pub bytes : Stored level (m / 8) (s .«last_rx» .samples)
-    pub end : getD (s .«last_rx» .samples) (m / 8) 0 ≡ 255
+  pub hearing-kept : (m : ℕ) (s t : DaliBitbangPhy) → Same s t → HearingOn m s → HearingOn m t
+  hearing-kept m s t same h =
+      let bus : t .core .bus ≡ s .core .bus = same .bus in
+      let rx : t .core .rx ≡ s .core .rx = same .rx in
+      let bytes : t .«rx_data» ≡ s .«rx_data» = same .bytes in
+      record { in-rx = rw bus (h .in-rx); counters = rw rx (h .counters); store = rw bytes (h .store); silence = rw rx (h .silence) }
 
-  module _ (m : ℕ) (s : DaliBitbangPhy) (h : Hearing m s) (room : m < 504) (few : highsRunning m level ≤ 15) where
+  module _ (m : ℕ) (s : DaliBitbangPhy) (h : HearingOn m s) (few : highsRunning m level ≤ 15) where
     then : Sampled level (suc m) (sampled (s .core .rx) (level m))
-    then = sampled-next level m (s .core .rx) (h .counters) room few
+    then = sampled-next level m (s .core .rx) (h .counters) few
 
-    then-bytes : Stored level (suc m / 8) (filled (s .«rx_data») (s .core .rx) (level m))
-    then-bytes = filled-next level m (s .core .rx) (h .counters) room (s .«rx_data») (h .bytes)
+    then-bytes : Store (base .«rx_data») level (suc m / 8) (filled (s .«rx_data») (s .core .rx) (level m))
+    then-bytes = filled-next level (base .«rx_data») (s .«rx_data») m (s .core .rx) (h .counters) (h .store)
 
-    pub hearing-next : highsRunning (suc m) level ≤ 15 → Hearing (suc m) (tickOf s (level m))
+    pub on-next : highsRunning (suc m) level ≤ 15 → HearingOn (suc m) (tickOf s (level m))
     unfolding heardOf
-    hearing-next short =
+    on-next short =
         let on : sampled (s .core .rx) (level m) .«rx_idle» < 16 = omega (arith, then .idle) in
         rw (tick-on s (level m) (h .in-rx) (lt-ltb _ _ on))
-        (record { in-rx = h .in-rx; counters = then; bytes = then-bytes })
+        (record { in-rx = h .in-rx; counters = then; store = then-bytes; silence = pre-kept (s .core .rx) (level m) ∙ h .silence })
 
-    pub captured-next : highsRunning (suc m) level ≡ 16 → Captured (suc m) (tickOf s (level m))
-    unfolding heardOf finished finishedRx idled
-    captured-next full =
+    pub on-end : highsRunning (suc m) level ≡ 16 → over.Captured base level (suc m) (tickOf s (level m))
+    on-end full =
         let over : 16 ≤ sampled (s .core .rx) (level m) .«rx_idle» = omega (arith, then .idle) in
-        rw (tick-end s (level m) (h .in-rx) (le-ltb _ _ over))
-        (record {
-          idle = refl;
-          ready = refl;
-          count = omega (arith, then .pos);
-          bytes = behind level (suc m / 8) _ _ 255 then-bytes (omega (arith, then .pos));
-          end = here level (suc m / 8) _ _ 255 then-bytes (then .pos) (omega arith);
-        })
+        rw (tick-end s (level m) (h .in-rx) (le-ltb _ _ over)) (whole (sampled (s .core .rx) (level m)) (filled (s .«rx_data») (s .core .rx) (level m)) then then-bytes (pre-kept (s .core .rx) (level m) ∙ h .silence))
+      where
+        whole : (r : Rx) (bytes : List ℕ) → Sampled level (suc m) r → Store (base .«rx_data») level (suc m / 8) bytes → r .«rx_pre_idle» ≡ min (idleCount base) 255
+            → over.Captured base level (suc m) (finishedRx s (finished (heardOf (s .core) (level m)) r) r bytes)
+        whole r bytes c b pre = ended s (level m) r bytes base level (suc m) (c .pos) b pre
 
-  -- ---- ticks in Idle
-  -- A capture stays while the line is high.
-  pub captured-stays : (m : ℕ) (s : DaliBitbangPhy) → Captured m s → Captured m (tickOf s true)
-  unfolding tickOf actOf isRx machine.actOf idleTick heardOf pick
-  captured-stays m s h = rw (h .idle) (record { idle = refl; ready = h .ready; count = h .count; bytes = h .bytes; end = h .end })
+-- ---- ticks in Idle
+-- The second low tick running starts Rx, with two low levels sampled.
+two-lows : (level : ℕ → Bool) (pre : ℕ) → level 0 ≡ false → level 1 ≡ false → Sampled level 2 (sampled (sampled (rxOf 0 0 0 0 pre) false) false)
+unfolding sampled highRun pick highsRunning packed
+two-lows level pre e f = record { pos = refl; count = refl; byte = rw (e, f); idle = rw f }
 
-  -- The second low tick running starts Rx, with two low levels sampled.
-  two-lows : (pre : ℕ) → level 0 ≡ false → level 1 ≡ false → Sampled level 2 (sampled (sampled (rxOf 0 0 0 0 pre) false) false)
-  unfolding sampled highRun pick highsRunning packed
-  two-lows pre e f = record { pos = refl; count = refl; byte = rw (e, f); idle = rw f }
-
-  pub second-low : (s : DaliBitbangPhy) → IsIdle s → s .core .bus .«rx_debounce» ≡ 1 → length (s .«rx_data») ≡ 64 → level 0 ≡ false → level 1 ≡ false
-      → Hearing 2 (tickOf s false)
-  unfolding tickOf actOf isRx machine.actOf idleTick entered heardOf pick
-  second-low s idle fell whole e f =
-      rw (idle, fell) (record { in-rx = refl; counters = two-lows _ e f; bytes = record { whole = whole; each = λ i p. absurd (not-suc-le-zero p) } })
+pub second-low-on : (level : ℕ → Bool) (s : DaliBitbangPhy) → IsIdle s → s .core .bus .«rx_debounce» ≡ 1 → length (s .«rx_data») ≡ 64 → level 0 ≡ false → level 1 ≡ false
+    → HearingOn s level 2 (tickOf s false)
+unfolding tickOf actOf isRx machine.actOf idleTick entered sampled heardOf pick
+second-low-on level s idle fell whole e f =
+    rw (idle, fell) (record { in-rx = refl; counters = two-lows level _ e f; store = untouched; silence = refl })
+  where
+    untouched : Store (s .«rx_data») level (2 / 8) (s .«rx_data»)
+    untouched = record { whole = whole; first = λ i p _. absurd (not-suc-le-zero p); last = λ i e _. absurd (let none : ⊥ = omega arith in none); rest = λ i _. refl }
 
 -- One low tick alone is only remembered.
 pub first-low : (s : DaliBitbangPhy) → IsIdle s → s .core .bus .«rx_debounce» ≡ 0
     → IsIdle (tickOf s false) × (tickOf s false .core .bus .«rx_debounce» ≡ 1) × (tickOf s false .«rx_data» ≡ s .«rx_data»)
 unfolding tickOf actOf isRx machine.actOf idleTick heardOf pick
 first-low s idle fell = rw (idle, fell) (refl, refl, refl)
+
+-- ---- captures of up to 504 levels, which overwrite no slot
+module _ (level : ℕ → Bool) where
+  -- bytes of which n are written
+  pub record Stored (n : ℕ) (bytes : List ℕ) : Type 0 where
+    pub whole : length bytes ≡ 64
+    pub each : (i : ℕ) → i < n → getD bytes i 0 ≡ byteOf level i
+
+  -- a station in Rx that has sampled m levels
+  pub record Hearing (m : ℕ) (s : DaliBitbangPhy) : Type 0 where
+    base : DaliBitbangPhy
+    on : HearingOn base level m s
+
+  -- a station that has made a capture of m of them: the last sixteen were high, and what is not a whole byte is an idle one
+  pub record Captured (m : ℕ) (s : DaliBitbangPhy) : Type 0 where
+    pub idle : IsIdle s
+    pub ready : s .core .told .«rx_state» ≡ Completed
+    pub count : s .«last_rx» .«sample_count» ≡ m / 8 + 1
+    pub bytes : Stored (m / 8) (s .«last_rx» .samples)
+    pub end : getD (s .«last_rx» .samples) (m / 8) 0 ≡ 255
+
+  module _ (m : ℕ) (s : DaliBitbangPhy) (h : Hearing m s) (room : m < 504) (few : highsRunning m level ≤ 15) where
+    pub hearing-next : highsRunning (suc m) level ≤ 15 → Hearing (suc m) (tickOf s (level m))
+    hearing-next short = record { base = h .base; on = on-next (h .base) level m s (h .on) few short }
+
+    pub captured-next : highsRunning (suc m) level ≡ 16 → Captured (suc m) (tickOf s (level m))
+    captured-next full =
+        let c : over.Captured (h .base) level (suc m) (tickOf s (level m)) = on-end (h .base) level m s (h .on) few full in
+        let at : min (suc m / 8) 63 ≡ suc m / 8 = omega arith in
+        record {
+          idle = c .idle .idle;
+          ready = c .ready;
+          count = omega (arith, c .count);
+          bytes = record { whole = c .whole; each = λ i p. c .first i p (omega arith) };
+          end = rw at at (c .end);
+        }
+
+  -- A capture stays while the line is high.
+  pub captured-stays : (m : ℕ) (s : DaliBitbangPhy) → Captured m s → Captured m (tickOf s true)
+  unfolding tickOf actOf isRx machine.actOf idleTick heardOf pick
+  captured-stays m s h = rw (h .idle) (record { idle = refl; ready = h .ready; count = h .count; bytes = h .bytes; end = h .end })
+
+  pub second-low : (s : DaliBitbangPhy) → IsIdle s → s .core .bus .«rx_debounce» ≡ 1 → length (s .«rx_data») ≡ 64 → level 0 ≡ false → level 1 ≡ false
+      → Hearing 2 (tickOf s false)
+  second-low s idle fell whole e f = record { base = s; on = second-low-on level s idle fell whole e f }

@@ -3,3 +3,8 @@ pub mod Holding
 pub mod Shown
 pub mod Stations
 pub mod Capturing
+pub mod Between
+pub mod Walking
+pub mod ByState
+pub mod Breaking
+pub mod Captures

@@ -1,6 +1,7 @@
 -- The calls that change a station, and the stations that they lead to from a new one. Assumes nothing.
 use mathlib.Core.Bool.{Bool, true, false}
 use mathlib.Core.List.{List, [], _∷_}
+use mathlib.Core.Path.{_≡_}
 use Rattle.halfbits.specs.declared.HalfBitBuffer.{HalfBitBuffer}
 use Rattle.machine.specs.declared.CollisionPolicy.{CollisionPolicy}
 use Rattle.fsm.specs.declared.DaliBitbangPhy.{DaliBitbangPhy}
@@ -47,6 +48,21 @@ isBetween take-idle = true
 isBetween take-rx = true
 isBetween acknowledge = true
 isBetween (policy p) = true
+
+-- no call among these starts an answer
+unfoldable pub isAnswer : Call → Bool
+isAnswer (tick high) = false
+isAnswer (start-tx hb) = false
+isAnswer (start-answer hb) = true
+isAnswer poll = false
+isAnswer take-idle = false
+isAnswer take-rx = false
+isAnswer acknowledge = false
+isAnswer (policy p) = false
+
+unfoldable pub NoAnswer : List Call → Type 0
+NoAnswer [] = Unit {0}
+NoAnswer (c ∷ cs) = (isAnswer c ≡ false) × NoAnswer cs
 
 -- any calls in any order
 pub data Reached : DaliBitbangPhy → Type 0 where

@@ -1,3 +1,4 @@
 pub mod Calls
 pub mod Ticks
 pub mod Invariants
+pub mod OverTicks

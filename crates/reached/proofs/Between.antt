@@ -1,0 +1,107 @@
+-- What calls other than ticks leave as it is. Assumes nothing.
+use mathlib.Core.Bool.{Bool, true, false, false≢true}
+use mathlib.Core.List.{List, [], _∷_}
+use mathlib.Core.Path.{_≡_, refl, sym, ap, _∙_}
+use lib.Dec.{eqb}
+use Rattle.laws.specs.Pick.{pick}
+use Rattle.laws.proofs.Picked.{on-false, cases}
+use Rattle.halfbits.specs.declared.HalfBitBuffer.{HalfBitBuffer}
+use Rattle.machine.specs.declared.BusState.{BusState}
+use Rattle.machine.specs.declared.BusState.the-variants as bus
+use Rattle.machine.specs.declared.RxState.{RxState}
+use Rattle.machine.specs.declared.RxState.the-variants.{Empty, Receiving, Completed}
+use Rattle.fsm.specs.declared.DaliBitbangPhy.{DaliBitbangPhy}
+use Rattle.fsm.specs.declared.Started.{Started}
+use Rattle.fsm.specs.declared.StartAnswer.the-variants as start
+use Rattle.fsm.specs.declared.Polled.{Polled}
+use Rattle.fsm.specs.Starting.{isIdle, hears, startedWith, started, startTx, startAnswer}
+use Rattle.fsm.specs.Polling.{isTx, polled}
+use Rattle.fsm.specs.Calls.{withPolicy, tookIdle, acknowledged, tookRx}
+use Rattle.reached.specs.Calls.{Call, tick, start-tx, start-answer, poll, take-idle, take-rx, acknowledge, policy, after, isBetween, Reached, called}
+
+-- all that ticks go by, but for the policy
+pub record Same (s t : DaliBitbangPhy) : Type 0 where
+  pub runs : t .core .runs ≡ s .core .runs
+  pub bus : t .core .bus ≡ s .core .bus
+  pub rx : t .core .rx ≡ s .core .rx
+  pub tx : t .core .tx ≡ s .core .tx
+  pub bytes : t .«rx_data» ≡ s .«rx_data»
+  pub halfbits : t .«tx_hb» ≡ s .«tx_hb»
+
+pub itself : (s : DaliBitbangPhy) → Same s s
+itself s = record { runs = refl; bus = refl; rx = refl; tx = refl; bytes = refl; halfbits = refl }
+
+-- ---- calls that tell, take or set the policy
+polled-same : (s : DaliBitbangPhy) → Same s (polled s .station)
+unfolding polled
+polled-same s =
+    let P : Polled → Type 0 = λ (x : Polled). Same s (x .station) in
+    cases P (s .core .told .«tx_yielded»)
+    (λ _. record { runs = refl; bus = refl; rx = refl; tx = refl; bytes = refl; halfbits = refl })
+    (λ _. cases P (eqb (s .core .told .«tx_collision») 0)
+    (λ _. cases P (isTx (s .core .bus .«bus_state»)) (λ _. itself s) (λ _. itself s))
+    (λ _. record { runs = refl; bus = refl; rx = refl; tx = refl; bytes = refl; halfbits = refl }))
+
+acknowledged-same : (mark : RxState) (s : DaliBitbangPhy) → Same s (acknowledged mark s)
+unfolding acknowledged
+acknowledged-same Empty s = itself s
+acknowledged-same Receiving s = itself s
+acknowledged-same Completed s = record { runs = refl; bus = refl; rx = refl; tx = refl; bytes = refl; halfbits = refl }
+
+took-same : (mark : RxState) (s : DaliBitbangPhy) → Same s (tookRx mark s .station)
+unfolding tookRx
+took-same Empty s = itself s
+took-same Receiving s = itself s
+took-same Completed s = acknowledged-same Completed s
+
+pub between-same : (c : Call) (s : DaliBitbangPhy) → isBetween c ≡ true → Same s (after c s)
+unfolding isBetween after tookIdle withPolicy
+between-same (tick high) s h = absurd (false≢true h)
+between-same (start-tx hb) s h = absurd (false≢true h)
+between-same (start-answer hb) s h = absurd (false≢true h)
+between-same poll s h = polled-same s
+between-same take-idle s h = record { runs = refl; bus = refl; rx = refl; tx = refl; bytes = refl; halfbits = refl }
+between-same take-rx s h = took-same (s .core .told .«rx_state») s
+between-same acknowledge s h = acknowledged-same (s .core .told .«rx_state») s
+between-same (policy p) s h = record { runs = refl; bus = refl; rx = refl; tx = refl; bytes = refl; halfbits = refl }
+
+-- ---- starts that are refused
+pub tx-refused : (s : DaliBitbangPhy) (hb : HalfBitBuffer) → isIdle (s .core .bus .«bus_state») ≡ false → startTx s hb ≡ startedWith s start.Busy
+unfolding startTx
+tx-refused s hb e = on-false e (started s hb false) (startedWith s start.Busy)
+
+pub answer-refused : (s : DaliBitbangPhy) (hb : HalfBitBuffer) → hears (s .core .bus .«bus_state») ≡ false → startAnswer s hb ≡ startedWith s start.Busy
+unfolding startAnswer
+answer-refused s hb e = on-false e (started s hb true) (startedWith s start.Busy)
+
+-- in Tx and Collision every start is refused, so that whatever is called leaves that as it is
+unfoldable pub isTick : Call → Bool
+isTick (tick high) = true
+isTick (start-tx hb) = false
+isTick (start-answer hb) = false
+isTick poll = false
+isTick take-idle = false
+isTick take-rx = false
+isTick acknowledge = false
+isTick (policy p) = false
+
+deaf-idle : (b : BusState) → hears b ≡ false → isIdle b ≡ false
+unfolding hears isIdle
+deaf-idle bus.Idle h = absurd (false≢true (sym h))
+deaf-idle bus.Rx h = refl
+deaf-idle bus.Tx h = refl
+deaf-idle bus.CollisionTx h = refl
+
+started-same : (s : DaliBitbangPhy) (x : Started) → x ≡ startedWith s start.Busy → Same s (x .station)
+started-same s x e = rw e (itself s)
+
+pub busy-same : (c : Call) (s : DaliBitbangPhy) → isTick c ≡ false → hears (s .core .bus .«bus_state») ≡ false → Same s (after c s)
+unfolding isTick after isBetween
+busy-same (tick high) s n h = absurd (false≢true (sym n))
+busy-same (start-tx hb) s n h = started-same s (startTx s hb) (tx-refused s hb (deaf-idle _ h))
+busy-same (start-answer hb) s n h = started-same s (startAnswer s hb) (answer-refused s hb h)
+busy-same poll s n h = between-same poll s refl
+busy-same take-idle s n h = between-same take-idle s refl
+busy-same take-rx s n h = between-same take-rx s refl
+busy-same acknowledge s n h = between-same acknowledge s refl
+busy-same (policy p) s n h = between-same (policy p) s refl

@@ -1,0 +1,47 @@
+-- A tick in each state, and how states differ. Assumes nothing.
+use Prim.Native.Nat.{ℕ}
+use mathlib.Core.Bool.{Bool, false≢true}
+use mathlib.Core.Path.{_≡_, refl, sym, ap}
+use Rattle.laws.specs.Pick.{pick}
+use Rattle.machine.specs.declared.BusState.the-variants as bus
+use Rattle.machine.specs.Runs.{heardOf}
+use Rattle.machine.specs.Idle.{idleTick}
+use Rattle.machine.specs.Sending.{txTick}
+use Rattle.machine.specs.Collision.{collisionTick}
+use Rattle.machine.specs.Acting as machine
+use Rattle.fsm.specs.declared.DaliBitbangPhy.{DaliBitbangPhy}
+use Rattle.fsm.specs.Station.{withCore}
+use Rattle.fsm.specs.Receiving.{storedRx}
+use Rattle.fsm.specs.Ticking.{isRx, actOf, tickOf}
+use Rattle.fsm.specs.Polling.{isTx}
+use Rattle.fsm.specs.Starting.{isIdle}
+use Rattle.reached.specs.Ticks.{IsIdle, IsCapturing, IsSending, IsBreaking}
+
+module _ (s : DaliBitbangPhy) (high : Bool) where
+  pub tick-idle : IsIdle s → tickOf s high ≡ withCore s (idleTick (heardOf (s .core) high) high)
+  unfolding tickOf actOf isRx machine.actOf pick
+  tick-idle e = rw e
+
+  pub tick-rx : IsCapturing s → tickOf s high ≡ storedRx s (heardOf (s .core) high) high
+  unfolding tickOf actOf isRx pick
+  tick-rx e = rw e
+
+  pub tick-tx : IsSending s → tickOf s high ≡ withCore s (txTick (heardOf (s .core) high) (s .«tx_hb») high)
+  unfolding tickOf actOf isRx machine.actOf pick
+  tick-tx e = rw e
+
+  pub tick-break : IsBreaking s → tickOf s high ≡ withCore s (collisionTick (heardOf (s .core) high) high)
+  unfolding tickOf actOf isRx machine.actOf pick
+  tick-break e = rw e
+
+pub sending-not-breaking : bus.Tx ≡ bus.CollisionTx → ⊥
+unfolding isTx
+sending-not-breaking e = false≢true (sym (ap isTx e))
+
+pub idle-not-breaking : bus.Idle ≡ bus.CollisionTx → ⊥
+unfolding isIdle
+idle-not-breaking e = false≢true (sym (ap isIdle e))
+
+pub idle-not-sending : bus.Idle ≡ bus.Tx → ⊥
+unfolding isIdle
+idle-not-sending e = false≢true (sym (ap isIdle e))

@@ -1,0 +1,126 @@
+-- Document 01, "Machine", over ticks: its sentences that speak of several ticks, for every station that calls lead to, whatever levels it
+-- samples and whatever else the host calls between the ticks. `low` and `high` are levels. Assumes nothing.
+use Prim.Native.Nat.{ℕ, _+_, _*_, _/_, _≤_, _<_, min}
+use mathlib.Core.Bool.{Bool, not}
+use mathlib.Core.List.{List}
+use mathlib.Core.Logic.{_⊎_}
+use mathlib.Core.Path.{_≡_}
+use lib.ListN.{length, getD, replicate}
+use Rattle.laws.specs.Bit.{bit}
+use Rattle.laws.specs.Packed.{packed}
+use Rattle.laws.specs.Tabulate.{tabulate}
+use Rattle.halfbits.specs.declared.HalfBitBuffer.{HalfBitBuffer}
+use Rattle.halfbits.specs.Wave.{high, low}
+use Rattle.machine.specs.declared.RxState.the-variants.{Completed}
+use Rattle.fsm.specs.declared.DaliBitbangPhy.{DaliBitbangPhy}
+use Rattle.fsm.specs.declared.TxPollResult.the-variants.{Ok, Collision, Yielded}
+use Rattle.fsm.specs.Ticking.{tickOf}
+use Rattle.fsm.specs.Starting.{startTx, startAnswer}
+use Rattle.fsm.specs.Refusals.{numberOf}
+use Rattle.fsm.specs.Polling.{polled}
+use Rattle.fsm.specs.Calls.{tookIdle}
+use Rattle.reached.specs.Calls.{Call, afterAll, NoAnswer, Reached}
+use Rattle.reached.specs.Ticks.{drives, IsIdle, IsCapturing, IsSending, IsBreaking, highsRunning, levelsIn, ticksIn}
+
+-- ---- Idle
+abbrev pub idleCount : DaliBitbangPhy → ℕ
+idleCount s = s .core .bus .idlecnt
+
+-- Idle, and no low tick is running: one alone starts nothing.
+pub record NoLow (s : DaliBitbangPhy) : Type 0 where
+  pub idle : IsIdle s
+  pub alone : IsIdle (tickOf s low)
+
+-- Idle, and the first low tick was counted: the second running starts Rx.
+pub record OneLow (s : DaliBitbangPhy) : Type 0 where
+  pub idle : IsIdle s
+  pub second : IsCapturing (tickOf s low)
+
+pub record InIdle (s : DaliBitbangPhy) : Type 0 where
+  pub either : NoLow s ⊎ OneLow s
+  -- a high tick is counted, and ends what lows were running
+  pub after-high : NoLow (tickOf s high)
+  pub counted : idleCount (tickOf s high) ≡ min (idleCount s + 1) 65535
+  -- a low tick is the first or the second running, and doesn't reset the idle count
+  pub after-low : NoLow s → OneLow (tickOf s low)
+  pub kept : idleCount (tickOf s low) ≡ idleCount s
+
+abbrev pub IdleTicks : Type 0
+IdleTicks = (s : DaliBitbangPhy) → Reached s → IsIdle s → InIdle s
+
+-- ---- Rx
+-- eight levels a byte, the first of them on top
+abbrev pub byteOf : (ℕ → Bool) → ℕ → ℕ
+byteOf level i = packed 2 8 (λ j. bit (level (8 * i + j)))
+
+-- A store of 64 bytes into which n bytes of a capture were written: the first 63 are kept, and each later one overwrites slot 63. The slots
+-- past them are left from earlier captures.
+pub record Store (before : List ℕ) (level : ℕ → Bool) (n : ℕ) (bytes : List ℕ) : Type 0 where
+  pub whole : length bytes ≡ 64
+  pub first : (i : ℕ) → i < n → i < 63 → getD bytes i 0 ≡ byteOf level i
+  pub last : (i : ℕ) → i + 1 ≡ n → 63 ≤ i → getD bytes 63 0 ≡ byteOf level i
+  pub rest : (i : ℕ) → n ≤ i → getD bytes i 0 ≡ getD before i 0
+
+-- A station whose second low tick starts Rx, and the levels of its capture: those two lows, and then n levels that ticks sample. Other calls
+-- are made between the ticks, but no answer is started. The sixteenth high running has not come yet.
+pub record Hears (s : DaliBitbangPhy) (level : ℕ → Bool) (n : ℕ) (calls : List Call) : Type 0 where
+  pub reached : Reached s
+  pub starts : OneLow s
+  pub two-lows : (level 0 ≡ low) × (level 1 ≡ low)
+  pub ticks : levelsIn calls ≡ tabulate n (λ i. level (2 + i))
+  pub unanswered : NoAnswer calls
+  pub lasts : (k : ℕ) → k ≤ 2 + n → highsRunning k level < 16
+
+-- Until then it is in Rx, and the store holds every whole byte of the levels that were heard; s is the station before the capture.
+pub record Capturing (s : DaliBitbangPhy) (level : ℕ → Bool) (heard : ℕ) (t : DaliBitbangPhy) : Type 0 where
+  pub capturing : IsCapturing t
+  pub store : Store (s .«rx_data») level (heard / 8) (t .«rx_data»)
+
+abbrev pub Captures : Type 0
+Captures =
+    (s : DaliBitbangPhy) (level : ℕ → Bool) (n : ℕ) (calls : List Call) → Hears s level n calls
+    → Capturing s level (2 + n) (afterAll calls (tickOf s low))
+
+-- The sixteenth high running writes 0xFF at the position, adds one to the count and goes Idle: an event is ready. A part-filled byte is in no
+-- slot, and bytes past the count are left from earlier captures. The next capture begins with these bytes.
+pub record Captured (s : DaliBitbangPhy) (level : ℕ → Bool) (heard : ℕ) (t : DaliBitbangPhy) : Type 0 where
+  pub idle : NoLow t
+  pub ready : t .core .told .«rx_state» ≡ Completed
+  pub whole : length (t .«last_rx» .samples) ≡ 64
+  pub count : t .«last_rx» .«sample_count» ≡ min (heard / 8) 63 + 1
+  pub first : (i : ℕ) → i < heard / 8 → i < 63 → getD (t .«last_rx» .samples) i 0 ≡ byteOf level i
+  pub end : getD (t .«last_rx» .samples) (min (heard / 8) 63) 0 ≡ 255
+  pub rest : (i : ℕ) → heard / 8 < i → getD (t .«last_rx» .samples) i 0 ≡ getD (s .«rx_data») i 0
+  pub silence : t .«last_rx» .«pre_idle_ticks» ≡ min (idleCount s) 255
+  pub stays : t .«rx_data» ≡ t .«last_rx» .samples
+
+abbrev pub CaptureEnds : Type 0
+CaptureEnds =
+    (s : DaliBitbangPhy) (level : ℕ → Bool) (n : ℕ) (calls : List Call) → Hears s level n calls → highsRunning (3 + n) level ≡ 16
+    → Captured s level (3 + n) (tickOf (afterAll calls (tickOf s low)) (level (2 + n)))
+
+-- ---- Collision
+-- A break of which so many ticks have passed: twelve are low, and the line is released on the thirteenth. Starts are refused by 7. Once the
+-- clash is told, a poll answers Ok.
+pub record InBreak (ticks : ℕ) (t : DaliBitbangPhy) : Type 0 where
+  pub breaking : IsBreaking t
+  pub pulls : 1 ≤ ticks → ticks ≤ 12 → drives t ≡ low
+  pub releases : ticks ≡ 13 → drives t ≡ high
+  pub refuses : (hb : HalfBitBuffer) → (numberOf (startTx t hb .answer) ≡ 7) × (numberOf (startAnswer t hb .answer) ≡ 7)
+  pub told : polled (polled t .station) .answer ≡ Ok
+
+-- The line is sampled and the station is Idle. The after-break mark says the level; a low one is Idle's first low.
+pub record Broke (sample : Bool) (t : DaliBitbangPhy) : Type 0 where
+  pub mark : tookIdle t .idle ≡ sample
+  pub found-low : sample ≡ low → OneLow t
+  pub found-high : sample ≡ high → NoLow t
+
+-- a break, from the tick that saw the clash on: any calls, and t is where they lead
+pub record Break (calls : List Call) (t : DaliBitbangPhy) : Type 0 where
+  pub lasts : ticksIn calls ≤ 13 → InBreak (ticksIn calls) t
+  pub sampled : ticksIn calls ≡ 13 → (sample : Bool) → Broke sample (tickOf t sample)
+
+abbrev pub Breaks : Type 0
+Breaks =
+    (s : DaliBitbangPhy) → Reached s → (level : Bool) → IsSending s → IsBreaking (tickOf s level)
+    → (calls : List Call) → Break calls (afterAll calls (tickOf s level))
