@@ -39,12 +39,14 @@ use Rattle.reached.proofs.Cores.{In}
 use Rattle.reached.proofs.Stations.{Whole, reached-whole}
 use Rattle.reached.proofs.Between.{Same, tx-refused, answer-refused}
 use Rattle.reached.proofs.Walking.{reached-all, all-any, walk}
+use Rattle.reached.proofs.Clashes.{clash-seen}
 use Rattle.reached.proofs.ByState.{tick-tx, tick-break, sending-not-breaking, idle-not-breaking}
 
 -- ---- a break of which n ticks have passed
 pub record At (n : ℕ) (t : DaliBitbangPhy) : Type 0 where
   pub breaking : IsBreaking t
   pub passed : t .core .tx .«tx_sp_cnt» ≡ n
+  pub waits : n ≡ 0 → drives t ≡ true
   pub pulls : 1 ≤ n → n ≤ 12 → drives t ≡ false
   pub releases : n ≡ 13 → drives t ≡ true
 
@@ -58,11 +60,12 @@ clash-alone Clash c e f = refl
 clash-alone Hold c e f = absurd (sending-not-breaking (sym e ∙ f))
 clash-alone (Drive high) c e f = absurd (sending-not-breaking (sym e ∙ f))
 
-pub begins : (s : DaliBitbangPhy) (level : Bool) → IsSending s → IsBreaking (tickOf s level) → At 0 (tickOf s level)
+pub begins : (s : DaliBitbangPhy) → Reached s → (level : Bool) → IsSending s → IsBreaking (tickOf s level) → At 0 (tickOf s level)
 unfolding txTick heardOf
-begins s level sending clash = record {
+begins s r level sending clash = record {
   breaking = clash;
   passed = ap (λ (t : DaliBitbangPhy). t .core .tx .«tx_sp_cnt») e ∙ clash-alone x c sending (sym (ap (λ (t : DaliBitbangPhy). t .core .bus .«bus_state») e) ∙ clash);
+  waits = λ _. clash-seen s r sending level clash .released .1;
   pulls = λ one _. absurd (none one);
   releases = λ h. absurd (never h);
 }
@@ -89,28 +92,26 @@ sampled-there t true = record { mark = refl; found-low = λ e. absurd (false≢t
 sampled-there t false = record { mark = refl; found-low = λ _. record { idle = refl; second = refl }; found-high = λ e. absurd (false≢true e) }
 
 -- ---- a tick of it
-module _ (n : ℕ) (t : DaliBitbangPhy) (h : At n t) (level : Bool) where
-  count : (t .core .tx .«tx_sp_cnt» + 1) % 256 ≡ (n + 1) % 256
-  count = rw (h .passed)
-
-  tick-on : n < 13 → tickOf t level ≡ withCore t (driving (spacing (heardOf (t .core) level) (suc n)) (ltb 12 (suc n)))
+module _ (n : ℕ) (t : DaliBitbangPhy) (breaking : IsBreaking t) (passed : t .core .tx .«tx_sp_cnt» ≡ n) (level : Bool) where
+  pub tick-on : n < 13 → tickOf t level ≡ withCore t (driving (spacing (heardOf (t .core) level) (suc n)) (ltb 12 (suc n)))
   unfolding collisionTick heardOf
   tick-on few =
-      let now : (t .core .tx .«tx_sp_cnt» + 1) % 256 ≡ suc n = omega (arith, h .passed) in
-      tick-break t level (h .breaking) ∙ rw now (simp (on-false (lt-leb 14 (suc n) (omega arith))))
+      let now : (t .core .tx .«tx_sp_cnt» + 1) % 256 ≡ suc n = omega arith in
+      tick-break t level breaking ∙ rw now (simp (on-false (lt-leb 14 (suc n) (omega arith))))
 
   tick-last : n ≡ 13 → tickOf t level ≡ withCore t (broke (spacing (heardOf (t .core) level) 14) level)
   unfolding collisionTick heardOf
   tick-last last =
-      let now : (t .core .tx .«tx_sp_cnt» + 1) % 256 ≡ 14 = omega (arith, h .passed) in
-      tick-break t level (h .breaking) ∙ rw now (simp (on-true (le-leb 14 14 (omega arith))))
+      let now : (t .core .tx .«tx_sp_cnt» + 1) % 256 ≡ 14 = omega arith in
+      tick-break t level breaking ∙ rw now (simp (on-true (le-leb 14 14 (omega arith))))
 
+module _ (n : ℕ) (t : DaliBitbangPhy) (h : At n t) (level : Bool) where
   pub goes-on : n < 13 → At (suc n) (tickOf t level)
   unfolding heardOf
-  goes-on few = rw (tick-on few) (record { breaking = h .breaking; passed = refl; pulls = λ one le. le-ltb 12 (suc n) le; releases = λ e. lt-ltb 12 (suc n) (omega arith) })
+  goes-on few = rw (tick-on n t (h .breaking) (h .passed) level few) (record { breaking = h .breaking; passed = refl; waits = λ e. absurd (let no : ⊥ = omega arith in no); pulls = λ one le. le-ltb 12 (suc n) le; releases = λ e. lt-ltb 12 (suc n) (omega arith) })
 
   ends : n ≡ 13 → Broke level (tickOf t level)
-  ends last = rw (tick-last last) (sampled-there t level)
+  ends last = rw (tick-last n t (h .breaking) (h .passed) level last) (sampled-there t level)
 
 -- ---- what else holds in a break
 -- polled twice, it answers Ok
@@ -156,13 +157,13 @@ kept : (n : ℕ) (s t : DaliBitbangPhy) → Same s t → At n s → At n t
 kept n s t same h =
     let bus : t .core .bus ≡ s .core .bus = same .bus in
     let tx : t .core .tx ≡ s .core .tx = same .tx in
-    record { breaking = rw bus (h .breaking); passed = rw tx (h .passed); pulls = λ a b. rw bus (h .pulls a b); releases = λ a. rw bus (h .releases a) }
+    record { breaking = rw bus (h .breaking); passed = rw tx (h .passed); waits = λ a. rw bus (h .waits a); pulls = λ a b. rw bus (h .pulls a b); releases = λ a. rw bus (h .releases a) }
 
-pub break-at : (s : DaliBitbangPhy) (level : Bool) → IsSending s → IsBreaking (tickOf s level) → (calls : List Call) → ticksIn calls ≤ 13
+pub break-at : (s : DaliBitbangPhy) → Reached s → (level : Bool) → IsSending s → IsBreaking (tickOf s level) → (calls : List Call) → ticksIn calls ≤ 13
     → At (ticksIn calls) (afterAll calls (tickOf s level))
-break-at s level sending clash calls few =
+break-at s r level sending clash calls few =
     let h : At (0 + ticksIn calls) (afterAll calls (tickOf s level))
-    = walk At (λ _. Unit {0}) 13 deaf kept (λ n t b _ less h. goes-on n t h b less) calls 0 (tickOf s level) (all-any (levelsIn calls)) (begins s level sending clash) (omega arith) in
+    = walk At (λ _. Unit {0}) 13 deaf kept (λ n t b _ less h. goes-on n t h b less) calls 0 (tickOf s level) (all-any (levelsIn calls)) (begins s r level sending clash) (omega arith) in
     rw (zero-add (ticksIn calls)) at h
 
 pub breaks : Breaks
@@ -171,15 +172,16 @@ breaks s r level sending clash calls =
     let t : DaliBitbangPhy = afterAll calls (tickOf s level) in
     record {
       lasts = λ few.
-          let h : At (ticksIn calls) t = break-at s level sending clash calls few in
+          let h : At (ticksIn calls) t = break-at s r level sending clash calls few in
           record {
             breaking = h .breaking;
+            waits = h .waits;
             pulls = h .pulls;
             releases = h .releases;
             refuses = refused t (h .breaking);
             told = polled-ok t (calm t (there s r level calls) (h .breaking)) (h .breaking);
           };
-      sampled = λ last sample. ends (ticksIn calls) t (break-at s level sending clash calls (omega arith)) sample last;
+      sampled = λ last sample. ends (ticksIn calls) t (break-at s r level sending clash calls (omega arith)) sample last;
     }
   where
     there : (s : DaliBitbangPhy) → Reached s → (level : Bool) (calls : List Call) → Reached (afterAll calls (tickOf s level))

@@ -6,5 +6,8 @@ pub mod Capturing
 pub mod Between
 pub mod Walking
 pub mod ByState
+pub mod Clashes
 pub mod Breaking
 pub mod Captures
+pub mod HalfBits
+pub mod Arming

@@ -8,11 +8,16 @@ use mathlib.Core.Path.{_≡_}
 use lib.ListN.{length, getD, replicate}
 use Rattle.laws.specs.Bit.{bit}
 use Rattle.laws.specs.Packed.{packed}
+use Rattle.laws.specs.Pick.{pick}
 use Rattle.laws.specs.Tabulate.{tabulate}
 use Rattle.halfbits.specs.declared.HalfBitBuffer.{HalfBitBuffer}
 use Rattle.halfbits.specs.Wave.{high, low}
+use Rattle.machine.specs.declared.CollisionPolicy.{CollisionPolicy}
+use Rattle.machine.specs.declared.CollisionPolicy.the-variants.{Auto, Off, On}
 use Rattle.machine.specs.declared.RxState.the-variants.{Completed}
+use Rattle.machine.specs.Sending.{releasesAt}
 use Rattle.fsm.specs.declared.DaliBitbangPhy.{DaliBitbangPhy}
+use Rattle.fsm.specs.declared.StartAnswer.the-variants as start
 use Rattle.fsm.specs.declared.TxPollResult.the-variants.{Ok, Collision, Yielded}
 use Rattle.fsm.specs.Ticking.{tickOf}
 use Rattle.fsm.specs.Starting.{startTx, startAnswer}
@@ -99,11 +104,113 @@ CaptureEnds =
     (s : DaliBitbangPhy) (level : ℕ → Bool) (n : ℕ) (calls : List Call) → Hears s level n calls → highsRunning (3 + n) level ≡ 16
     → Captured s level (3 + n) (tickOf (afterAll calls (tickOf s low)) (level (2 + n)))
 
+-- ---- Tx
+-- the half-bits begun so far, and all that are to be sent
+abbrev pub begun : DaliBitbangPhy → ℕ
+begun s = s .core .tx .«tx_hb_cnt»
+
+abbrev pub toSend : DaliBitbangPhy → ℕ
+toSend s = s .«tx_hb» .«tx_hb_len»
+
+-- the tick with this level is the first of a half-bit
+pub record Begins (s : DaliBitbangPhy) (level : Bool) : Type 0 where
+  pub sending : IsSending s
+  pub one-more : begun (tickOf s level) ≡ begun s + 1
+
+-- The first tick of a half-bit drives it: one bit of the store a half-bit, top bit first, where 0 leaves the line high.
+pub record Drives (s : DaliBitbangPhy) (level : Bool) : Type 0 where
+  pub sending : IsSending (tickOf s level)
+  pub level-of : drives (tickOf s level) ≡ releasesAt (getD (s .«tx_hb» .«tx_hb_data») (begun s / 8) 0) (begun s)
+
+abbrev pub HalfBitsDriven : Type 0
+HalfBitsDriven = (s : DaliBitbangPhy) (level : Bool) → Begins s level → Drives s level
+
+-- A started station is armed: it leaves the line high and has begun nothing.
+pub record Armed (t : DaliBitbangPhy) : Type 0 where
+  pub sending : IsSending t
+  pub released : drives t ≡ high
+  pub none-begun : begun t ≡ 0
+
+-- Three ticks are armed, and the fourth begins the first half-bit of what was given. t is the station after n ticks.
+pub record ArmedFor (hb : HalfBitBuffer) (n : ℕ) (t : DaliBitbangPhy) : Type 0 where
+  pub armed : n ≤ 3 → Armed t
+  pub first : n ≡ 3 → (level : Bool) → Begins t level
+  pub store : n ≤ 3 → t .«tx_hb» ≡ record { «tx_hb_data» = hb .«data»; «tx_hb_len» = hb .length }
+
+-- The frame is given up, and the same tick is Idle's first low.
+pub record Yields (t : DaliBitbangPhy) : Type 0 where
+  pub first-low : OneLow t
+  pub told : polled t .answer ≡ Yielded
+
+-- While the line is high, so it goes for both starts. A low armed tick yields.
+abbrev pub FrameArmed : Type 0
+FrameArmed =
+    (s : DaliBitbangPhy) → Reached s → (hb : HalfBitBuffer) → startTx s hb .answer ≡ start.Started
+    → (calls : List Call) (n : ℕ) → levelsIn calls ≡ replicate n high
+    → ArmedFor hb n (afterAll calls (startTx s hb .station)) × (n < 3 → Yields (tickOf (afterAll calls (startTx s hb .station)) low))
+
+-- For an answer it goes so whatever the line does.
+abbrev pub AnswerArmed : Type 0
+AnswerArmed =
+    (s : DaliBitbangPhy) → Reached s → (hb : HalfBitBuffer) → startAnswer s hb .answer ≡ start.Started
+    → (calls : List Call) → ArmedFor hb (ticksIn calls) (afterAll calls (startAnswer s hb .station))
+
+-- Off watches nothing, On all, and Auto every length but 22.
+unfoldable pub Watches : CollisionPolicy → ℕ → Type 0
+Watches Off len = ⊥
+Watches On len = Unit {0}
+Watches Auto len = len ≡ 22 → ⊥
+
+-- A tick of a half-bit, counted from 1 for the tick that drives it, is a clash: the half-bit is released and watched, the tick is its third or
+-- fourth, and samples low.
+pub record IsClash (number : ℕ) (s : DaliBitbangPhy) (level : Bool) : Type 0 where
+  pub released : drives s ≡ high
+  pub watched : Watches (s .core .«collision_policy») (toSend s)
+  pub third : 3 ≤ number
+  pub fourth : number ≤ 4
+  pub fell : level ≡ low
+
+-- The tick of that number in a half-bit that isn't the last, if the station is still sending. It is a clash, or the half-bit's level is held,
+-- and the fifth tick begins the next half-bit. `first` is the station after the tick that drove it.
+pub record Follows (first : DaliBitbangPhy) (number : ℕ) (t : DaliBitbangPhy) (level : Bool) : Type 0 where
+  pub held : drives t ≡ drives first
+  pub store : t .«tx_hb» ≡ first .«tx_hb»
+  pub clash : IsClash number t level → IsBreaking (tickOf t level)
+  pub no-clash : (IsClash number t level → ⊥) → IsSending (tickOf t level)
+  pub over : number ≡ 5 → Begins t level
+
+abbrev pub HalfBitTicks : Type 0
+HalfBitTicks =
+    (s : DaliBitbangPhy) → Reached s → (level : Bool) → Begins s level → begun (tickOf s level) < toSend s
+    → (calls : List Call) → ticksIn calls ≤ 3 → IsSending (afterAll calls (tickOf s level))
+    → (next : Bool) → Follows (tickOf s level) (ticksIn calls + 2) (afterAll calls (tickOf s level)) next
+
+-- The last half-bit lasts one tick and isn't watched: the next goes Idle, whatever it samples, and isn't Idle's first low.
+pub record Sent (t : DaliBitbangPhy) : Type 0 where
+  pub idle : NoLow t
+  pub told : polled t .answer ≡ Ok
+
+abbrev pub LastHalfBit : Type 0
+LastHalfBit =
+    (s : DaliBitbangPhy) → Reached s → (level : Bool) → Begins s level → begun (tickOf s level) ≡ toSend s
+    → (calls : List Call) → ticksIn calls ≡ 0 → (next : Bool) → Sent (tickOf (afterAll calls (tickOf s level)) next)
+
+-- A clash is told as Collision. It is a low tick on a line that the station leaves high; it is seen where the policy watches, and nowhere else.
+pub record SeesClash (s : DaliBitbangPhy) (level : Bool) : Type 0 where
+  pub fell : level ≡ low
+  pub released : (drives s ≡ high) × (drives (tickOf s level) ≡ high)
+  pub watched : Watches (s .core .«collision_policy») (toSend s)
+  pub told : polled (tickOf s level) .answer ≡ Collision
+
+abbrev pub ClashSeen : Type 0
+ClashSeen = (s : DaliBitbangPhy) → Reached s → IsSending s → (level : Bool) → IsBreaking (tickOf s level) → SeesClash s level
+
 -- ---- Collision
 -- A break of which so many ticks have passed: twelve are low, and the line is released on the thirteenth. Starts are refused by 7. Once the
 -- clash is told, a poll answers Ok.
 pub record InBreak (ticks : ℕ) (t : DaliBitbangPhy) : Type 0 where
   pub breaking : IsBreaking t
+  pub waits : ticks ≡ 0 → drives t ≡ high
   pub pulls : 1 ≤ ticks → ticks ≤ 12 → drives t ≡ low
   pub releases : ticks ≡ 13 → drives t ≡ high
   pub refuses : (hb : HalfBitBuffer) → (numberOf (startTx t hb .answer) ≡ 7) × (numberOf (startAnswer t hb .answer) ≡ 7)
@@ -124,3 +231,18 @@ abbrev pub Breaks : Type 0
 Breaks =
     (s : DaliBitbangPhy) → Reached s → (level : Bool) → IsSending s → IsBreaking (tickOf s level)
     → (calls : List Call) → Break calls (afterAll calls (tickOf s level))
+
+-- ---- the counts
+-- Becoming Idle sets the idle count to the current high run.
+abbrev pub BecomesIdle : Type 0
+BecomesIdle = (s : DaliBitbangPhy) (level : Bool) → (IsIdle s → ⊥) → IsIdle (tickOf s level) → idleCount (tickOf s level) ≡ tickOf s level .core .runs .«high_run_ticks»
+
+-- the run of a level
+abbrev pub runOf : Bool → DaliBitbangPhy → ℕ
+runOf level s = pick level (s .core .runs .«high_run_ticks») (s .core .runs .«low_run_ticks»)
+
+-- After n ticks of one level running, its run is n, up to 65,535, and the other run is over.
+abbrev pub RunLengths : Type 0
+RunLengths =
+    (s : DaliBitbangPhy) (level : Bool) (calls : List Call) (n : ℕ) → levelsIn calls ≡ replicate n level → 0 < n
+    → (runOf level (afterAll calls (tickOf s (not level))) ≡ min n 65535) × (runOf (not level) (afterAll calls (tickOf s (not level))) ≡ 0)
