@@ -1,11 +1,11 @@
 -- The armed ticks of a started station (specs/OverTicks, Tx). Assumes nothing.
-use Prim.Native.Nat.{ℕ, zero, suc, _+_, _/_, _%_, _≤_, _<_}
+use Prim.Native.Nat.{ℕ, suc, _+_, _/_, _≤_, _<_}
 use native.Mathlib.Omega.{arith}
 use native.Mathlib.Nat.{zero-add}
 use mathlib.Core.Bool.{Bool, true, false, false≢true}
 use mathlib.Core.List.{List}
-use mathlib.Core.Path.{_≡_, refl, sym, _∙_, ap, subst}
-use lib.Dec.{eqb, leb}
+use mathlib.Core.Path.{_≡_, refl, sym, _∙_, ap}
+use lib.Dec.{eqb}
 use lib.ListN.{length, getD, replicate, length-replicate}
 use borrow.Author.Tests.{eqb-false, eq-eqb, ne-eqb, lt-leb}
 use Rattle.laws.specs.Pick.{pick}
@@ -16,7 +16,6 @@ use Rattle.machine.specs.declared.BusState.the-variants as bus
 use Rattle.machine.specs.declared.TxStep.{TxStep}
 use Rattle.machine.specs.declared.TxStep.the-variants.{Arm, Yield, Drive}
 use Rattle.machine.specs.declared.TxHb.{TxHb}
-use Rattle.machine.specs.declared.Core.{Core}
 use Rattle.machine.specs.Runs.{heardOf}
 use Rattle.machine.specs.BecomingIdle.{idled}
 use Rattle.machine.specs.Idle.{idleTick, entered}
@@ -27,17 +26,16 @@ use Rattle.fsm.specs.declared.DaliBitbangPhy.{DaliBitbangPhy}
 use Rattle.fsm.specs.declared.Started.{Started}
 use Rattle.fsm.specs.declared.StartAnswer.{StartAnswer}
 use Rattle.fsm.specs.declared.StartAnswer.the-variants as start
-use Rattle.fsm.specs.declared.TxPollResult.the-variants.{Yielded}
 use Rattle.fsm.specs.Station.{withCore}
 use Rattle.fsm.specs.Ticking.{isRx, actOf, tickOf}
 use Rattle.fsm.specs.Starting.{isIdle, hears, lengthFits, startedWith, loadedWith, started, startTx, startAnswer}
 use Rattle.fsm.specs.Polling.{polled}
 use Rattle.reached.specs.Calls.{Call, afterAll, Reached}
 use Rattle.reached.specs.Ticks.{drives, IsSending, levelsIn, ticksIn}
-use Rattle.reached.specs.OverTicks.{OneLow, Begins, ArmedFor, Yields, FrameArmed, AnswerArmed}
+use Rattle.reached.specs.OverTicks.{Begins, ArmedFor, Yields, FrameArmed, AnswerArmed}
 use Rattle.reached.proofs.Holding.{invariants}
 use Rattle.reached.proofs.Between.{Same}
-use Rattle.reached.proofs.Walking.{All, all-any, all-same, walk}
+use Rattle.reached.proofs.Walking.{all-any, all-same, walk}
 use Rattle.reached.proofs.Clashes.{clash-told}
 use Rattle.reached.proofs.ByState.{tick-tx}
 

@@ -1,9 +1,7 @@
 -- What calls other than ticks leave as it is. Assumes nothing.
 use mathlib.Core.Bool.{Bool, true, false, false≢true}
-use mathlib.Core.List.{List, [], _∷_}
-use mathlib.Core.Path.{_≡_, refl, sym, ap, _∙_}
+use mathlib.Core.Path.{_≡_, refl, sym}
 use lib.Dec.{eqb}
-use Rattle.laws.specs.Pick.{pick}
 use Rattle.laws.proofs.Picked.{on-false, cases}
 use Rattle.halfbits.specs.declared.HalfBitBuffer.{HalfBitBuffer}
 use Rattle.machine.specs.declared.BusState.{BusState}
@@ -17,7 +15,7 @@ use Rattle.fsm.specs.declared.Polled.{Polled}
 use Rattle.fsm.specs.Starting.{isIdle, hears, startedWith, started, startTx, startAnswer}
 use Rattle.fsm.specs.Polling.{isTx, polled}
 use Rattle.fsm.specs.Calls.{withPolicy, tookIdle, acknowledged, tookRx}
-use Rattle.reached.specs.Calls.{Call, tick, start-tx, start-answer, poll, take-idle, take-rx, acknowledge, policy, after, isBetween, Reached, called}
+use Rattle.reached.specs.Calls.{Call, tick, start-tx, start-answer, poll, take-idle, take-rx, acknowledge, policy, after, isBetween}
 
 -- all that ticks go by, but for the policy
 pub record Same (s t : DaliBitbangPhy) : Type 0 where

@@ -1,14 +1,14 @@
 -- A break, tick by tick (specs/OverTicks, Collision). Assumes nothing.
-use Prim.Native.Nat.{ℕ, zero, suc, _+_, _%_, _≤_, _<_}
+use Prim.Native.Nat.{ℕ, suc, _+_, _%_, _≤_, _<_}
 use native.Mathlib.Omega.{arith}
 use native.Mathlib.Nat.{zero-add}
 use mathlib.Core.Bool.{Bool, true, false, false≢true}
-use mathlib.Core.List.{List, [], _∷_}
+use mathlib.Core.List.{List}
 use mathlib.Core.Path.{_≡_, refl, sym, _∙_, ap, subst}
-use lib.Dec.{eqb, ltb, leb}
+use lib.Dec.{eqb, ltb}
 use borrow.Author.Tests.{lt-ltb, le-ltb, le-leb, lt-leb, eqb-true, eq-eqb}
 use Rattle.laws.specs.Pick.{pick}
-use Rattle.laws.proofs.Picked.{on-true, on-false, cases}
+use Rattle.laws.proofs.Picked.{on-true, on-false}
 use Rattle.halfbits.specs.declared.HalfBitBuffer.{HalfBitBuffer}
 use Rattle.machine.specs.declared.BusState.{BusState}
 use Rattle.machine.specs.declared.BusState.the-variants as bus
@@ -23,7 +23,6 @@ use Rattle.machine.specs.Sending.{txStep, armed, yielded, clashed, held, driven
 use Rattle.machine.specs.Collision.{broke, collisionTick}
 use Rattle.machine.specs.Acting as machine
 use Rattle.fsm.specs.declared.DaliBitbangPhy.{DaliBitbangPhy}
-use Rattle.fsm.specs.declared.Polled.{Polled}
 use Rattle.fsm.specs.declared.Started.{Started}
 use Rattle.fsm.specs.declared.TxPollResult.the-variants.{Ok}
 use Rattle.fsm.specs.Station.{withCore}
@@ -33,10 +32,10 @@ use Rattle.fsm.specs.Refusals.{numberOf}
 use Rattle.fsm.specs.Polling.{isTx, polled}
 use Rattle.fsm.specs.Calls.{tookIdle}
 use Rattle.reached.specs.Calls.{Call, after, afterAll, Reached, called, tick}
-use Rattle.reached.specs.Ticks.{drives, IsIdle, IsSending, IsBreaking, levelsIn, ticksIn}
-use Rattle.reached.specs.OverTicks.{NoLow, OneLow, InBreak, Broke, Break, Breaks}
+use Rattle.reached.specs.Ticks.{drives, IsSending, IsBreaking, levelsIn, ticksIn}
+use Rattle.reached.specs.OverTicks.{Broke, Breaks}
 use Rattle.reached.proofs.Cores.{In}
-use Rattle.reached.proofs.Stations.{Whole, reached-whole}
+use Rattle.reached.proofs.Stations.{reached-whole}
 use Rattle.reached.proofs.Between.{Same, tx-refused, answer-refused}
 use Rattle.reached.proofs.Walking.{reached-all, all-any, walk}
 use Rattle.reached.proofs.Clashes.{clash-seen}
@@ -179,10 +178,7 @@ breaks s r level sending clash calls =
             pulls = h .pulls;
             releases = h .releases;
             refuses = refused t (h .breaking);
-            told = polled-ok t (calm t (there s r level calls) (h .breaking)) (h .breaking);
+            told = polled-ok t (calm t (reached-all calls (tickOf s level) (called (tick level) r)) (h .breaking)) (h .breaking);
           };
       sampled = λ last sample. ends (ticksIn calls) t (break-at s r level sending clash calls (omega arith)) sample last;
     }
-  where
-    there : (s : DaliBitbangPhy) → Reached s → (level : Bool) (calls : List Call) → Reached (afterAll calls (tickOf s level))
-    there s r level calls = reached-all calls (tickOf s level) (subst Reached refl (called (tick level) r))

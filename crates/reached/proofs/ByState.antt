@@ -1,7 +1,6 @@
 -- A tick in each state, and how states differ. Assumes nothing.
-use Prim.Native.Nat.{ℕ}
 use mathlib.Core.Bool.{Bool, false≢true}
-use mathlib.Core.Path.{_≡_, refl, sym, ap}
+use mathlib.Core.Path.{_≡_, sym, ap}
 use Rattle.laws.specs.Pick.{pick}
 use Rattle.machine.specs.declared.BusState.the-variants as bus
 use Rattle.machine.specs.Runs.{heardOf}

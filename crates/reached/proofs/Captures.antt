@@ -2,10 +2,10 @@
 use Prim.Native.Nat.{ℕ, zero, suc, _+_, _≤_, _<_, min}
 use native.Mathlib.Omega.{arith}
 use native.Mathlib.Decide.{decLt}
-use native.Mathlib.Nat.{add-zero, zero-add}
+use native.Mathlib.Nat.{add-zero}
 use mathlib.Core.Bool.{Bool, true, false, false≢true}
 use mathlib.Core.List.{List, [], _∷_}
-use mathlib.Core.Logic.{_⊎_, inl, inr}
+use mathlib.Core.Logic.{inl, inr}
 use mathlib.Core.Path.{_≡_, refl, sym, _∙_, ap, subst}
 use lib.ListN.{length, getD, drop}
 use Rattle.laws.specs.Pick.{pick}
@@ -20,9 +20,8 @@ use Rattle.fsm.specs.declared.DaliBitbangPhy.{DaliBitbangPhy}
 use Rattle.fsm.specs.Ticking.{isRx, actOf, tickOf}
 use Rattle.fsm.specs.Starting.{isIdle, startTx}
 use Rattle.reached.specs.Calls.{Call, tick, start-tx, start-answer, poll, take-idle, take-rx, acknowledge, policy, after, afterAll, isBetween, isAnswer, NoAnswer, Reached}
-use Rattle.reached.specs.Invariants.{Holds}
 use Rattle.reached.specs.Ticks.{IsIdle, IsCapturing, highsRunning, levelIn, levelsIn}
-use Rattle.reached.specs.OverTicks.{idleCount, NoLow, OneLow, InIdle, IdleTicks, Hears, Capturing, Captures, Captured, CaptureEnds}
+use Rattle.reached.specs.OverTicks.{idleCount, NoLow, OneLow, InIdle, IdleTicks, Hears, Captures, Captured, CaptureEnds}
 use Rattle.reached.proofs.Holding.{invariants}
 use Rattle.reached.proofs.Between.{Same, itself, between-same, tx-refused}
 use Rattle.reached.proofs.Capturing.{HearingOn, hearing-kept, on-next, on-end, second-low-on, first-low}

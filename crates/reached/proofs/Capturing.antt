@@ -1,5 +1,5 @@
 -- What a station makes of the levels that it samples: one law for each tick, whatever the levels are and however many. Assumes nothing.
-use Prim.Native.Nat.{ℕ, suc, _+_, _-_, _*_, _/_, _%_, _<_, _≤_, min}
+use Prim.Native.Nat.{ℕ, suc, _+_, _*_, _/_, _%_, _<_, _≤_, min}
 use native.Mathlib.Omega.{arith}
 use native.Mathlib.Decide.{decLt}
 use native.Mathlib.Nat.{div-one, not-suc-le-zero}
@@ -15,7 +15,6 @@ use Rattle.laws.specs.Packed.{packed}
 use Rattle.laws.specs.Pick.{pick}
 use Rattle.laws.proofs.Picked.{on-true, on-false, cases}
 use Rattle.laws.proofs.Digits.{packed-part, bit-lt}
-use Rattle.machine.specs.declared.BusState.the-variants as bus
 use Rattle.machine.specs.declared.RxState.the-variants.{Completed}
 use Rattle.machine.specs.declared.Rx.{Rx}
 use Rattle.machine.specs.Groups.{withRx}

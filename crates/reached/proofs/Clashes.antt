@@ -32,12 +32,12 @@ use Rattle.fsm.specs.declared.StartAnswer.the-variants as start
 use Rattle.fsm.specs.declared.TxPollResult.the-variants.{Collision}
 use Rattle.fsm.specs.Station.{newCore, newStation, withCore}
 use Rattle.fsm.specs.Receiving.{storedRx, finishedRx}
-use Rattle.fsm.specs.Ticking.{isRx, tickOf}
+use Rattle.fsm.specs.Ticking.{tickOf}
 use Rattle.fsm.specs.Starting.{isIdle, hears, lengthFits, startedWith, loadedWith, started, startTx, startAnswer}
 use Rattle.fsm.specs.Polling.{isTx, polled}
 use Rattle.reached.specs.Calls.{Call, tick, start-tx, start-answer, poll, take-idle, take-rx, acknowledge, policy, after, isBetween, Reached, new, called}
-use Rattle.reached.specs.Ticks.{drives, IsSending, IsBreaking}
-use Rattle.reached.specs.OverTicks.{toSend, Watches, SeesClash, ClashSeen}
+use Rattle.reached.specs.Ticks.{drives}
+use Rattle.reached.specs.OverTicks.{toSend, Watches, ClashSeen}
 use Rattle.reached.proofs.Cores.{In}
 use Rattle.reached.proofs.Stations.{reached-whole}
 use Rattle.reached.proofs.Between.{Same, between-same}

@@ -1,13 +1,13 @@
 -- The ticks of a half-bit (specs/OverTicks, Tx). Assumes nothing.
-use Prim.Native.Nat.{ℕ, zero, suc, _+_, _/_, _%_, _≤_, _<_}
+use Prim.Native.Nat.{ℕ, suc, _+_, _/_, _%_, _≤_, _<_}
 use native.Mathlib.Omega.{arith}
 use native.Mathlib.Decide.{decLt}
-use native.Mathlib.Nat.{not-suc-le-zero, zero-add, add-zero}
+use native.Mathlib.Nat.{not-suc-le-zero, zero-add}
 use mathlib.Core.Bool.{Bool, true, false, false≢true}
 use mathlib.Core.List.{List}
 use mathlib.Core.Logic.{_⊎_, inl, inr, ⊎-elim}
 use mathlib.Core.Path.{_≡_, refl, sym, _∙_, ap, subst}
-use lib.Dec.{eqb, ltb, leb}
+use lib.Dec.{eqb, leb}
 use lib.ListN.{getD}
 use borrow.Author.Tests.{eqb-true, eq-eqb, ne-eqb, leb-false, le-leb, lt-leb}
 use Rattle.laws.specs.Bit.{bit}
@@ -32,9 +32,9 @@ use Rattle.fsm.specs.Station.{withCore}
 use Rattle.fsm.specs.Ticking.{isRx, actOf, tickOf}
 use Rattle.fsm.specs.Starting.{hears}
 use Rattle.fsm.specs.Polling.{isTx, polled}
-use Rattle.reached.specs.Calls.{Call, tick, after, afterAll, Reached, called}
+use Rattle.reached.specs.Calls.{Call, tick, after, afterAll, called}
 use Rattle.reached.specs.Ticks.{drives, IsSending, IsBreaking, levelsIn, ticksIn}
-use Rattle.reached.specs.OverTicks.{begun, toSend, Begins, Drives, HalfBitsDriven, IsClash, Follows, HalfBitTicks, NoLow, Sent, LastHalfBit}
+use Rattle.reached.specs.OverTicks.{begun, toSend, Begins, HalfBitsDriven, IsClash, HalfBitTicks, NoLow, LastHalfBit}
 use Rattle.reached.proofs.Cores.{In}
 use Rattle.reached.proofs.Stations.{reached-whole}
 use Rattle.reached.proofs.Between.{Same}
@@ -265,7 +265,7 @@ half-bit-ticks s r level b more calls few sending next =
     let short : toSend first ≤ 54 = reached-whole first (called (tick level) r) .loads in
     let h : InHalf first (ticksIn calls) t = goes first within calls first (half-begins s level b) few sending in
     record {
-      held = h .level;
+      held = (h .level, h .count);
       store = h .store;
       clash = λ k. clash-tick first within (ticksIn calls) t h next (clash-of first within (ticksIn calls) t h next k) .0;
       no-clash = no-clash first within (ticksIn calls) t h next few short;

@@ -11,3 +11,4 @@ pub mod Breaking
 pub mod Captures
 pub mod HalfBits
 pub mod Arming
+pub mod Counts

@@ -1,9 +1,17 @@
--- Stations that calls lead to, computed: each state is reached, and so is every hypothesis of the invariants. Assumes nothing.
-use Prim.Native.Nat.{ℕ, zero, suc}
-use mathlib.Core.Bool.{true, false}
-use mathlib.Core.Path.{_≡_, refl}
+-- Stations that calls lead to, computed: each state is reached, and so is every hypothesis of the invariants and of the statements over
+-- ticks. Assumes nothing.
+use Prim.Native.Nat.{ℕ, zero, suc, _+_, _-_, _≤_, _<_}
+use native.Mathlib.Omega.{arith}
+use native.Mathlib.Decide.{decLt}
+use mathlib.Core.Bool.{Bool, true, false, false≢true}
+use mathlib.Core.Path.{_≡_, refl, _∙_, ap}
 use mathlib.Core.List.{List, [], _∷_}
+use lib.Dec.{leb}
+use lib.ListN.{replicate}
+use borrow.Author.Tests.{le-leb, lt-leb}
 use Rattle.laws.specs.Pick.{pick}
+use Rattle.laws.specs.Tabulate.{tabulate}
+use Rattle.laws.proofs.Picked.{on-true, on-false}
 use Rattle.halfbits.specs.declared.HalfBitBuffer.{HalfBitBuffer}
 use Rattle.machine.specs.declared.BusState.the-variants as bus
 use Rattle.machine.specs.declared.RxState.the-variants.{Completed}
@@ -19,8 +27,12 @@ use Rattle.fsm.specs.declared.DaliBitbangPhy.{DaliBitbangPhy}
 use Rattle.fsm.specs.Station.{newCore, newStation}
 use Rattle.fsm.specs.Receiving.{filled, finishedRx, storedRx}
 use Rattle.fsm.specs.Ticking.{isRx, actOf, tickOf}
-use Rattle.fsm.specs.Starting.{isIdle, lengthFits, loadedWith, started, startTx}
-use Rattle.reached.specs.Calls.{Call, tick, start-tx, after, Reached, new, called}
+use Rattle.fsm.specs.declared.StartAnswer.the-variants as start
+use Rattle.fsm.specs.Starting.{isIdle, hears, lengthFits, loadedWith, started, startTx, startAnswer}
+use Rattle.reached.specs.Calls.{Call, tick, start-tx, poll, after, afterAll, isAnswer, NoAnswer, Reached, new, called}
+use Rattle.reached.specs.Ticks.{IsIdle, IsSending, IsBreaking, highsRunning, levelIn, levelsIn}
+use Rattle.reached.specs.OverTicks.{NoLow, OneLow, Hears, begun, toSend, Begins, Watches, IsClash}
+use Rattle.reached.proofs.Captures.{capture-ends}
 
 -- the same call so many times
 times : ℕ → Call → List Call → List Call
@@ -72,3 +84,96 @@ record Leads : Type 0 where
 leads : Leads
 unfolding times run low high released sends clash capture after newStation newCore tickOf isRx actOf machine.actOf rxTick heardOf idled idleTick entered sampled highRun storedRx filled finishedRx finished startTx isIdle lengthFits started loadedWith loaded txTick txStep clashOf watchesOf releasesAt stepped armed held driven clashed collisionTick broke pick
 leads = record { debounces = refl; receives = refl; completes = refl; sends-it = refl; breaks = refl; collides = refl; finds-idle = refl }
+
+-- ---- what the statements over ticks ask for
+-- calls whose ticks sample any levels, with a poll after each
+polling : ℕ → (ℕ → Bool) → List Call
+polling zero f = []
+polling (suc n) f = tick (f 0) ∷ poll ∷ polling n (λ i. f (suc i))
+
+polling-samples : (n : ℕ) (f : ℕ → Bool) → levelsIn (polling n f) ≡ tabulate n f
+unfolding polling levelsIn levelIn tabulate
+polling-samples zero f = refl
+polling-samples (suc n) f = ap (λ l. f 0 ∷ l) (polling-samples n (λ i. f (suc i)))
+
+polling-no-answer : (n : ℕ) (f : ℕ → Bool) → NoAnswer (polling n f)
+unfolding polling NoAnswer isAnswer
+polling-no-answer zero f = tt
+polling-no-answer (suc n) f = (refl, (refl, polling-no-answer n (λ i. f (suc i))))
+
+ticks-of : (n : ℕ) (level : Bool) → levelsIn (times n (tick level) []) ≡ replicate n level
+unfolding times levelsIn levelIn
+ticks-of zero level = refl
+ticks-of (suc n) level = ap (λ l. level ∷ l) (ticks-of n level)
+
+-- any levels, in as many ticks as they last
+hears-any : (level : ℕ → Bool) (n : ℕ) → level 0 ≡ false → level 1 ≡ false → ((k : ℕ) → k ≤ 2 + n → highsRunning k level < 16)
+    → Hears (run (low ∷ [])) level n (polling n (λ i. level (2 + i)))
+unfolding times run low high released sends clash capture after newStation newCore tickOf isRx actOf machine.actOf rxTick heardOf idled idleTick entered sampled highRun storedRx filled finishedRx finished startTx isIdle lengthFits started loadedWith loaded txTick txStep clashOf watchesOf releasesAt stepped armed held driven clashed collisionTick broke pick
+hears-any level n e f lasts = record {
+  reached = reached (low ∷ []);
+  starts = record { idle = refl; second = refl };
+  two-lows = (e, f);
+  ticks = polling-samples n (λ i. level (2 + i));
+  unanswered = polling-no-answer n (λ i. level (2 + i));
+  lasts = lasts;
+}
+
+-- 600 low ticks and sixteen high: more than the store holds
+long : ℕ → Bool
+long i = leb 600 i
+
+long-highs : (k : ℕ) → highsRunning k long ≡ k - 600
+unfolding highsRunning long
+long-highs zero = refl
+long-highs (suc k) = go (decLt k 600) (long-highs k)
+  where
+    go : Dec (k < 600) → highsRunning k long ≡ k - 600 → highsRunning (suc k) long ≡ suc k - 600
+    go (yes early) h = on-false (lt-leb 600 k early) _ _ ∙ (let e : 0 ≡ suc k - 600 = omega arith in e)
+    go (no late) h = on-true (le-leb 600 k (omega (arith, late))) _ _ ∙ ap suc h ∙ (let e : suc (k - 600) ≡ suc k - 600 = omega (arith, late) in e)
+
+hears-long : Hears (run (low ∷ [])) long 613 (polling 613 (λ i. long (2 + i)))
+unfolding long
+hears-long = hears-any long 613 refl refl (λ k le. let few : k - 600 < 16 = omega arith in rw (long-highs k) few)
+
+long-ends : highsRunning (3 + 613) long ≡ 16
+long-ends = long-highs 616
+
+-- its count
+long-count : tickOf (afterAll (polling 613 (λ i. long (2 + i))) (tickOf (run (low ∷ [])) false)) (long 615) .«last_rx» .«sample_count» ≡ 64
+long-count = capture-ends (run (low ∷ [])) long 613 (polling 613 (λ i. long (2 + i))) hears-long long-ends .count
+
+-- one half-bit to be sent
+short : HalfBitBuffer
+short = record { «data» = 0 ∷ 0 ∷ 0 ∷ 0 ∷ 0 ∷ 0 ∷ 0 ∷ []; length = 1 }
+
+record Asked : Type 0 where
+  none-yet : NoLow newStation
+  one-yet : OneLow (run (low ∷ []))
+  frame-taken : startTx newStation released .answer ≡ start.Started
+  answer-taken : startAnswer (run (times 2 low [])) released .answer ≡ start.Started
+  half-bit : Begins (run (times 3 high sends)) true
+  not-last : begun (run (times 4 high sends)) < toSend (run (times 3 high sends))
+  third : IsClash 3 (run (times 5 high sends)) false
+  fourth : IsClash 4 (run (times 6 high sends)) false
+  last : Begins (run (times 3 high (start-tx short ∷ []))) true
+  last-begun : begun (run (times 4 high (start-tx short ∷ []))) ≡ toSend (run (times 3 high (start-tx short ∷ [])))
+  sees : IsSending (run (times 5 high sends)) × IsBreaking (tickOf (run (times 5 high sends)) false)
+  becomes-idle : (IsIdle (run (times 15 high (times 2 low []))) → ⊥) × IsIdle (tickOf (run (times 15 high (times 2 low []))) true)
+
+asked : Asked
+unfolding times run low high released sends clash capture after newStation newCore tickOf isRx actOf machine.actOf rxTick heardOf idled idleTick entered sampled highRun storedRx filled finishedRx finished startTx isIdle lengthFits started loadedWith loaded txTick txStep clashOf watchesOf releasesAt stepped armed held driven clashed collisionTick broke pick hears short startAnswer Watches
+asked = record {
+  none-yet = record { idle = refl; alone = refl };
+  one-yet = record { idle = refl; second = refl };
+  frame-taken = refl;
+  answer-taken = refl;
+  half-bit = record { sending = refl; one-more = refl };
+  not-last = omega arith;
+  third = record { released = refl; watched = λ e. omega (arith, e); third = omega arith; fourth = omega arith; fell = refl };
+  fourth = record { released = refl; watched = λ e. omega (arith, e); third = omega arith; fourth = omega arith; fell = refl };
+  last = record { sending = refl; one-more = refl };
+  last-begun = refl;
+  sees = (refl, refl);
+  becomes-idle = (λ e. false≢true (ap isIdle e), refl);
+}

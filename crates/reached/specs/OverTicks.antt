@@ -27,6 +27,16 @@ use Rattle.fsm.specs.Calls.{tookIdle}
 use Rattle.reached.specs.Calls.{Call, afterAll, NoAnswer, Reached}
 use Rattle.reached.specs.Ticks.{drives, IsIdle, IsCapturing, IsSending, IsBreaking, highsRunning, levelsIn, ticksIn}
 
+-- ---- run lengths
+abbrev pub runOf : Bool → DaliBitbangPhy → ℕ
+runOf level s = pick level (s .core .runs .«high_run_ticks») (s .core .runs .«low_run_ticks»)
+
+-- After n ticks of one level running, its run is n, up to 65,535, and the other run is over. So it is in any state, of any station.
+abbrev pub RunLengths : Type 0
+RunLengths =
+    (s : DaliBitbangPhy) (level : Bool) (calls : List Call) (n : ℕ) → levelsIn calls ≡ replicate n level → 0 < n
+    → (runOf level (afterAll calls (tickOf s (not level))) ≡ min n 65535) × (runOf (not level) (afterAll calls (tickOf s (not level))) ≡ 0)
+
 -- ---- Idle
 abbrev pub idleCount : DaliBitbangPhy → ℕ
 idleCount s = s .core .bus .idlecnt
@@ -142,14 +152,14 @@ pub record Yields (t : DaliBitbangPhy) : Type 0 where
   pub first-low : OneLow t
   pub told : polled t .answer ≡ Yielded
 
--- While the line is high, so it goes for both starts. A low armed tick yields.
+-- A frame: so it goes while the line is high, and a low armed tick yields.
 abbrev pub FrameArmed : Type 0
 FrameArmed =
     (s : DaliBitbangPhy) → Reached s → (hb : HalfBitBuffer) → startTx s hb .answer ≡ start.Started
     → (calls : List Call) (n : ℕ) → levelsIn calls ≡ replicate n high
     → ArmedFor hb n (afterAll calls (startTx s hb .station)) × (n < 3 → Yields (tickOf (afterAll calls (startTx s hb .station)) low))
 
--- For an answer it goes so whatever the line does.
+-- An answer: so it goes whatever the line does.
 abbrev pub AnswerArmed : Type 0
 AnswerArmed =
     (s : DaliBitbangPhy) → Reached s → (hb : HalfBitBuffer) → startAnswer s hb .answer ≡ start.Started
@@ -170,10 +180,10 @@ pub record IsClash (number : ℕ) (s : DaliBitbangPhy) (level : Bool) : Type 0 w
   pub fourth : number ≤ 4
   pub fell : level ≡ low
 
--- The tick of that number in a half-bit that isn't the last, if the station is still sending. It is a clash, or the half-bit's level is held,
--- and the fifth tick begins the next half-bit. `first` is the station after the tick that drove it.
+-- The tick of that number, where the half-bit isn't the last one and the station is still sending: it is a clash, or the station goes on
+-- sending. Until the fifth tick, which begins the next half-bit, its level is held. `first` is the station after the tick that drove it.
 pub record Follows (first : DaliBitbangPhy) (number : ℕ) (t : DaliBitbangPhy) (level : Bool) : Type 0 where
-  pub held : drives t ≡ drives first
+  pub held : (drives t ≡ drives first) × (begun t ≡ begun first)
   pub store : t .«tx_hb» ≡ first .«tx_hb»
   pub clash : IsClash number t level → IsBreaking (tickOf t level)
   pub no-clash : (IsClash number t level → ⊥) → IsSending (tickOf t level)
@@ -232,17 +242,9 @@ Breaks =
     (s : DaliBitbangPhy) → Reached s → (level : Bool) → IsSending s → IsBreaking (tickOf s level)
     → (calls : List Call) → Break calls (afterAll calls (tickOf s level))
 
--- ---- the counts
--- Becoming Idle sets the idle count to the current high run.
+-- ---- becoming Idle
+-- The idle count is set to the current high run, from whatever state it comes.
 abbrev pub BecomesIdle : Type 0
-BecomesIdle = (s : DaliBitbangPhy) (level : Bool) → (IsIdle s → ⊥) → IsIdle (tickOf s level) → idleCount (tickOf s level) ≡ tickOf s level .core .runs .«high_run_ticks»
-
--- the run of a level
-abbrev pub runOf : Bool → DaliBitbangPhy → ℕ
-runOf level s = pick level (s .core .runs .«high_run_ticks») (s .core .runs .«low_run_ticks»)
-
--- After n ticks of one level running, its run is n, up to 65,535, and the other run is over.
-abbrev pub RunLengths : Type 0
-RunLengths =
-    (s : DaliBitbangPhy) (level : Bool) (calls : List Call) (n : ℕ) → levelsIn calls ≡ replicate n level → 0 < n
-    → (runOf level (afterAll calls (tickOf s (not level))) ≡ min n 65535) × (runOf (not level) (afterAll calls (tickOf s (not level))) ≡ 0)
+BecomesIdle =
+    (s : DaliBitbangPhy) (level : Bool) → (IsIdle s → ⊥) → IsIdle (tickOf s level)
+    → idleCount (tickOf s level) ≡ runOf high (tickOf s level)
