@@ -11,6 +11,7 @@ use borrow.Author.Tests.{eqb-false, eq-eqb, ne-eqb, lt-leb}
 use Rattle.laws.specs.Pick.{pick}
 use Rattle.laws.proofs.Picked.{on-true, on-false, cases}
 use Rattle.halfbits.specs.declared.HalfBitBuffer.{HalfBitBuffer}
+use Rattle.halfbits.specs.Wave.{low}
 use Rattle.machine.specs.declared.BusState.{BusState}
 use Rattle.machine.specs.declared.BusState.the-variants as bus
 use Rattle.machine.specs.declared.TxStep.{TxStep}
@@ -155,6 +156,13 @@ yields : (hb : HalfBitBuffer) (n : ℕ) (t : DaliBitbangPhy) → Waits hb false 
 unfolding pick
 yields hb n t h few = rw (by hb false n t h false Yield (rule hb false n t h false few ∙ rw (h .kind))) (yield-left t)
 
+-- an answer goes on
+answers : (hb : HalfBitBuffer) (n : ℕ) (t : DaliBitbangPhy) → Waits hb true n t → (b : Bool) → n < 3 → Waits hb true (suc n) (tickOf t b)
+answers hb n t h b few = waits-on hb true n t h b few (rule hb true n t h b few ∙ either)
+  where
+    either : pick b Arm (pick (t .core .tx .«tx_answer») Arm Yield) ≡ Arm
+    either = cases (λ (x : TxStep). x ≡ Arm) b (λ _. refl) (λ _. on-true (h .kind) Arm Yield)
+
 -- ---- both starts
 module _ (s : DaliBitbangPhy) (r : Reached s) (hb : HalfBitBuffer) where
   quiet : hears (s .core .bus .«bus_state») ≡ true → drives s ≡ true
@@ -191,11 +199,8 @@ module _ (s : DaliBitbangPhy) (r : Reached s) (hb : HalfBitBuffer) where
     answer-waits calls few =
         let begin : Waits hb true 0 (startAnswer s hb .station) = rw (answer-taken .left) (waits s hb true (quiet (answer-taken .was))) in
         let on : Waits hb true (0 + ticksIn calls) (afterAll calls (startAnswer s hb .station))
-        = walk (Waits hb true) (λ _. Unit {0}) 3 (deaf hb true) (kept hb true) (λ k t b _ less w. waits-on hb true k t w b less (rule hb true k t w b less ∙ answers b _ (w .kind))) calls 0 (startAnswer s hb .station) (all-any (levelsIn calls)) begin (omega arith) in
+        = walk (Waits hb true) (λ _. Unit {0}) 3 (deaf hb true) (kept hb true) (λ k t b _ less w. answers hb k t w b less) calls 0 (startAnswer s hb .station) (all-any (levelsIn calls)) begin (omega arith) in
         rw (zero-add (ticksIn calls)) at on
-      where
-        answers : (b x : Bool) → x ≡ true → pick b Arm (pick x Arm Yield) ≡ Arm
-        answers b x e = cases (λ (y : TxStep). y ≡ Arm) b (λ _. refl) (λ _. on-true e Arm Yield)
 
 pub frame-armed : FrameArmed
 frame-armed s r hb ok calls n e =
@@ -204,4 +209,5 @@ frame-armed s r hb ok calls n e =
 
 pub answer-armed : AnswerArmed
 answer-armed s r hb ok calls =
-    armed-for hb true (ticksIn calls) (afterAll calls (startAnswer s hb .station)) (answer-waits s r hb ok calls) (some-length _ (answer-taken s r hb ok .fits))
+    let t : DaliBitbangPhy = afterAll calls (startAnswer s hb .station) in
+    (armed-for hb true (ticksIn calls) t (answer-waits s r hb ok calls) (some-length _ (answer-taken s r hb ok .fits)), λ few. answers hb (ticksIn calls) t (answer-waits s r hb ok calls (omega arith)) low few .sending)

@@ -33,7 +33,7 @@ use Rattle.fsm.specs.Polling.{isTx, polled}
 use Rattle.fsm.specs.Calls.{tookIdle}
 use Rattle.reached.specs.Calls.{Call, after, afterAll, Reached, called, tick}
 use Rattle.reached.specs.Ticks.{drives, IsSending, IsBreaking, levelsIn, ticksIn}
-use Rattle.reached.specs.OverTicks.{Broke, Breaks}
+use Rattle.reached.specs.OverTicks.{InBreak, Broke, Breaks}
 use Rattle.reached.proofs.Cores.{In}
 use Rattle.reached.proofs.Stations.{reached-whole}
 use Rattle.reached.proofs.Between.{Same, tx-refused, answer-refused}
@@ -46,8 +46,7 @@ pub record At (n : ℕ) (t : DaliBitbangPhy) : Type 0 where
   pub breaking : IsBreaking t
   pub passed : t .core .tx .«tx_sp_cnt» ≡ n
   pub waits : n ≡ 0 → drives t ≡ true
-  pub pulls : 1 ≤ n → n ≤ 12 → drives t ≡ false
-  pub releases : n ≡ 13 → drives t ≡ true
+  pub driving : 1 ≤ n → drives t ≡ ltb 12 n
 
 -- the tick that sees the clash: no other step leaves Tx for Collision
 clash-alone : (x : TxStep) (c : Core) → c .bus .«bus_state» ≡ bus.Tx → stepped x c .bus .«bus_state» ≡ bus.CollisionTx → stepped x c .tx .«tx_sp_cnt» ≡ 0
@@ -65,8 +64,7 @@ begins s r level sending clash = record {
   breaking = clash;
   passed = ap (λ (t : DaliBitbangPhy). t .core .tx .«tx_sp_cnt») e ∙ clash-alone x c sending (sym (ap (λ (t : DaliBitbangPhy). t .core .bus .«bus_state») e) ∙ clash);
   waits = λ _. clash-seen s r sending level clash .released .1;
-  pulls = λ one _. absurd (none one);
-  releases = λ h. absurd (never h);
+  driving = λ one. absurd (none one);
 }
   where
     c : Core
@@ -80,9 +78,6 @@ begins s r level sending clash = record {
 
     none : 1 ≤ 0 → ⊥
     none h = omega (arith, h)
-
-    never : _≡_ {A = ℕ} 0 13 → ⊥
-    never h = omega (arith, h)
 
 -- ---- the last tick
 sampled-there : (t : DaliBitbangPhy) (level : Bool) → Broke level (withCore t (broke (spacing (heardOf (t .core) level) 14) level))
@@ -107,7 +102,7 @@ module _ (n : ℕ) (t : DaliBitbangPhy) (breaking : IsBreaking t) (passed : t .c
 module _ (n : ℕ) (t : DaliBitbangPhy) (h : At n t) (level : Bool) where
   pub goes-on : n < 13 → At (suc n) (tickOf t level)
   unfolding heardOf
-  goes-on few = rw (tick-on n t (h .breaking) (h .passed) level few) (record { breaking = h .breaking; passed = refl; waits = λ e. absurd (let no : ⊥ = omega arith in no); pulls = λ one le. le-ltb 12 (suc n) le; releases = λ e. lt-ltb 12 (suc n) (omega arith) })
+  goes-on few = rw (tick-on n t (h .breaking) (h .passed) level few) (record { breaking = h .breaking; passed = refl; waits = λ e. absurd (let no : ⊥ = omega arith in no); driving = λ _. refl })
 
   ends : n ≡ 13 → Broke level (tickOf t level)
   ends last = rw (tick-last n t (h .breaking) (h .passed) level last) (sampled-there t level)
@@ -156,7 +151,7 @@ kept : (n : ℕ) (s t : DaliBitbangPhy) → Same s t → At n s → At n t
 kept n s t same h =
     let bus : t .core .bus ≡ s .core .bus = same .bus in
     let tx : t .core .tx ≡ s .core .tx = same .tx in
-    record { breaking = rw bus (h .breaking); passed = rw tx (h .passed); waits = λ a. rw bus (h .waits a); pulls = λ a b. rw bus (h .pulls a b); releases = λ a. rw bus (h .releases a) }
+    record { breaking = rw bus (h .breaking); passed = rw tx (h .passed); waits = λ a. rw bus (h .waits a); driving = λ a. rw bus (h .driving a) }
 
 pub break-at : (s : DaliBitbangPhy) → Reached s → (level : Bool) → IsSending s → IsBreaking (tickOf s level) → (calls : List Call) → ticksIn calls ≤ 13
     → At (ticksIn calls) (afterAll calls (tickOf s level))
@@ -165,20 +160,22 @@ break-at s r level sending clash calls few =
     = walk At (λ _. Unit {0}) 13 deaf kept (λ n t b _ less h. goes-on n t h b less) calls 0 (tickOf s level) (all-any (levelsIn calls)) (begins s r level sending clash) (omega arith) in
     rw (zero-add (ticksIn calls)) at h
 
+in-break : (n : ℕ) (t : DaliBitbangPhy) → Reached t → At n t → InBreak n t
+in-break n t r h = record {
+  breaking = h .breaking;
+  waits = h .waits;
+  pulls = λ one le. h .driving (omega arith) ∙ le-ltb 12 n (omega arith);
+  releases = λ e. h .driving (omega arith) ∙ lt-ltb 12 n (omega arith);
+  refuses = refused t (h .breaking);
+  told = polled-ok t (calm t r (h .breaking)) (h .breaking);
+}
+
 pub breaks : Breaks
 unfolding after
 breaks s r level sending clash calls =
     let t : DaliBitbangPhy = afterAll calls (tickOf s level) in
+    let there : Reached t = reached-all calls (tickOf s level) (called (tick level) r) in
     record {
-      lasts = λ few.
-          let h : At (ticksIn calls) t = break-at s r level sending clash calls few in
-          record {
-            breaking = h .breaking;
-            waits = h .waits;
-            pulls = h .pulls;
-            releases = h .releases;
-            refuses = refused t (h .breaking);
-            told = polled-ok t (calm t (reached-all calls (tickOf s level) (called (tick level) r)) (h .breaking)) (h .breaking);
-          };
-      sampled = λ last sample. ends (ticksIn calls) t (break-at s r level sending clash calls (omega arith)) sample last;
+      lasts = λ few. in-break (ticksIn calls) t there (break-at s r level sending clash calls (omega arith));
+      sampled = λ last sample. ends (ticksIn calls) t (break-at s r level sending clash calls (omega arith)) sample (omega arith);
     }

@@ -146,4 +146,4 @@ pub captures : Captures
 captures s level n calls h = record { capturing = hearing s level n calls h .in-rx; store = hearing s level n calls h .store }
 
 pub capture-ends : CaptureEnds
-capture-ends s level n calls h = ends s level n calls h
+capture-ends s level n calls h full = ends s level n calls h (omega arith)

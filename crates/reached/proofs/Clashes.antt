@@ -120,13 +120,13 @@ steady _ (called {s = s} c r) = call-steady s c (steady s r)
 -- ---- what is watched
 pub watched : (p : CollisionPolicy) (len : ℕ) → watchesOf p len ≡ true → Watches p len
 unfolding watchesOf Watches
-watched Auto len e = λ f. false≢true (sym (ap not (eq-eqb len 22 f)) ∙ e)
+watched Auto len e = λ f. false≢true (sym (ap not (eq-eqb len 22 (omega arith))) ∙ e)
 watched Off len e = absurd (false≢true e)
 watched On len e = tt
 
 pub watching : (p : CollisionPolicy) (len : ℕ) → Watches p len → watchesOf p len ≡ true
 unfolding watchesOf Watches
-watching Auto len w = ap not (ne-eqb len 22 w)
+watching Auto len w = ap not (ne-eqb len 22 (λ f. w (omega arith)))
 watching Off len w = absurd w
 watching On len w = refl
 

@@ -162,4 +162,4 @@ run-lengths s level calls n e some =
     let r : Ran level (0 + n) (afterAll calls (tickOf s (not level)) .core .runs) = runs-on level calls n 0 (tickOf s (not level)) e (none-yet s level) in
     let plain : 0 + n ≡ n = omega arith in
     let t : Ran level n (afterAll calls (tickOf s (not level)) .core .runs) = rw plain at r in
-    (t .0, t .1 some)
+    (omega (arith, t .0), omega (arith, t .1 some))

@@ -261,7 +261,7 @@ half-bit-ticks s r level b more calls few sending next =
     let first : DaliBitbangPhy = tickOf s level in
     let t : DaliBitbangPhy = afterAll calls first in
     let same : first .«tx_hb» ≡ s .«tx_hb» = ap (λ (u : DaliBitbangPhy). u .«tx_hb») (begin-tick s level b) in
-    let within : begun first < toSend first = rw same more in
+    let within : begun first < toSend first = omega (arith, ap (λ (hb : TxHb). hb .«tx_hb_len») same) in
     let short : toSend first ≤ 54 = reached-whole first (called (tick level) r) .loads in
     let h : InHalf first (ticksIn calls) t = goes first within calls first (half-begins s level b) few sending in
     record {

@@ -159,11 +159,12 @@ FrameArmed =
     → (calls : List Call) (n : ℕ) → levelsIn calls ≡ replicate n high
     → ArmedFor hb n (afterAll calls (startTx s hb .station)) × (n < 3 → Yields (tickOf (afterAll calls (startTx s hb .station)) low))
 
--- An answer: so it goes whatever the line does.
+-- An answer: so it goes whatever the line does, and a low armed tick goes on.
 abbrev pub AnswerArmed : Type 0
 AnswerArmed =
     (s : DaliBitbangPhy) → Reached s → (hb : HalfBitBuffer) → startAnswer s hb .answer ≡ start.Started
-    → (calls : List Call) → ArmedFor hb (ticksIn calls) (afterAll calls (startAnswer s hb .station))
+    → (calls : List Call)
+    → ArmedFor hb (ticksIn calls) (afterAll calls (startAnswer s hb .station)) × (ticksIn calls < 3 → IsSending (tickOf (afterAll calls (startAnswer s hb .station)) low))
 
 -- Off watches nothing, On all, and Auto every length but 22.
 unfoldable pub Watches : CollisionPolicy → ℕ → Type 0
