@@ -1,6 +1,6 @@
 -- The invariants of reached stations (specs/Invariants). Assumes nothing.
 use Prim.Native.Nat.{_≤_}
-use mathlib.Core.Bool.{true, false, not, false≢true}
+use mathlib.Core.Bool.{true, not, false≢true}
 use mathlib.Core.Path.{_≡_, refl, sym, subst, _∙_}
 use Rattle.machine.specs.declared.BusState.{BusState}
 use Rattle.machine.specs.declared.BusState.the-variants as bus

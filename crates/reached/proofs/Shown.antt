@@ -28,11 +28,15 @@ use Rattle.fsm.specs.Station.{newCore, newStation}
 use Rattle.fsm.specs.Receiving.{filled, finishedRx, storedRx}
 use Rattle.fsm.specs.Ticking.{isRx, actOf, tickOf}
 use Rattle.fsm.specs.declared.StartAnswer.the-variants as start
+use Rattle.fsm.specs.Polling.{isTx, polled}
 use Rattle.fsm.specs.Starting.{isIdle, hears, lengthFits, loadedWith, started, startTx, startAnswer}
 use Rattle.reached.specs.Calls.{Call, tick, start-tx, poll, after, afterAll, isAnswer, NoAnswer, Reached, new, called}
 use Rattle.reached.specs.Ticks.{IsIdle, IsSending, IsBreaking, highsRunning, levelIn, levelsIn}
-use Rattle.reached.specs.OverTicks.{NoLow, OneLow, Hears, begun, toSend, Begins, Watches, IsClash}
+use Rattle.reached.specs.OverTicks.{NoLow, OneLow, Hears, begun, toSend, Begins, Yields, Watches, IsClash, Sent, Break}
 use Rattle.reached.proofs.Captures.{capture-ends}
+use Rattle.reached.proofs.HalfBits.{half-bit-ticks, last-half-bit}
+use Rattle.reached.proofs.Arming.{frame-armed, answer-armed}
+use Rattle.reached.proofs.Breaking.{breaks}
 
 -- the same call so many times
 times : ℕ → Call → List Call → List Call
@@ -177,3 +181,25 @@ asked = record {
   sees = (refl, refl);
   becomes-idle = (λ e. false≢true (ap isIdle e), refl);
 }
+
+-- the statements used on them: a clash on the third tick, with a poll before it, and a break
+clash-used : IsBreaking (tickOf (afterAll (high ∷ poll ∷ []) (tickOf (run (times 3 high sends)) true)) false)
+unfolding times run low high released sends clash capture after newStation newCore tickOf isRx actOf machine.actOf rxTick heardOf idled idleTick entered sampled highRun storedRx filled finishedRx finished startTx isIdle lengthFits started loadedWith loaded txTick txStep clashOf watchesOf releasesAt stepped armed held driven clashed collisionTick broke pick hears short startAnswer Watches afterAll levelsIn levelIn polled isTx
+clash-used =
+    half-bit-ticks (run (times 3 high sends)) (reached (times 3 high sends)) true (asked .half-bit) (asked .not-last) (high ∷ poll ∷ []) (omega arith) refl false .clash
+    (record { released = refl; watched = λ e. omega (arith, e); third = omega arith; fourth = omega arith; fell = refl })
+
+break-used : Break (times 13 low []) (afterAll (times 13 low []) (tickOf (run (times 5 high sends)) false))
+break-used = breaks (run (times 5 high sends)) (reached (times 5 high sends)) false (asked .sees .0) (asked .sees .1) (times 13 low [])
+
+last-used : Sent (tickOf (afterAll (poll ∷ []) (tickOf (run (times 3 high (start-tx short ∷ []))) true)) false)
+unfolding times run low high released sends clash capture after newStation newCore tickOf isRx actOf machine.actOf rxTick heardOf idled idleTick entered sampled highRun storedRx filled finishedRx finished startTx isIdle lengthFits started loadedWith loaded txTick txStep clashOf watchesOf releasesAt stepped armed held driven clashed collisionTick broke pick hears short startAnswer Watches levelsIn levelIn
+last-used = last-half-bit (run (times 3 high (start-tx short ∷ []))) (reached (times 3 high (start-tx short ∷ []))) true (asked .last) (asked .last-begun) (poll ∷ []) refl false
+
+frame-used : Yields (tickOf (afterAll (times 2 high []) (startTx newStation released .station)) false)
+unfolding times run low high released sends clash capture after newStation newCore tickOf isRx actOf machine.actOf rxTick heardOf idled idleTick entered sampled highRun storedRx filled finishedRx finished startTx isIdle lengthFits started loadedWith loaded txTick txStep clashOf watchesOf releasesAt stepped armed held driven clashed collisionTick broke pick hears short startAnswer Watches
+frame-used = frame-armed newStation new released (asked .frame-taken) (times 2 high []) 2 (ticks-of 2 true) .1 (omega arith)
+
+answer-used : Begins (afterAll (times 3 low []) (startAnswer (run (times 2 low [])) released .station)) false
+unfolding times run low high released sends clash capture after newStation newCore tickOf isRx actOf machine.actOf rxTick heardOf idled idleTick entered sampled highRun storedRx filled finishedRx finished startTx isIdle lengthFits started loadedWith loaded txTick txStep clashOf watchesOf releasesAt stepped armed held driven clashed collisionTick broke pick hears short startAnswer Watches levelsIn levelIn
+answer-used = answer-armed (run (times 2 low [])) (reached (times 2 low [])) released (asked .answer-taken) (times 3 low []) .0 .first refl false
