@@ -20,7 +20,7 @@ use Rattle.machine.specs.declared.TxHb.{TxHb}
 use Rattle.machine.specs.Runs.{heardOf}
 use Rattle.machine.specs.BecomingIdle.{idled}
 use Rattle.machine.specs.Idle.{idleTick, entered}
-use Rattle.machine.specs.Sending.{clashOf, releasesAt, txStep, armed, yielded, driven, stepped, txTick}
+use Rattle.machine.specs.Sending.{clashOf, releasesAt, txStep, armed, yielded, driven, stepped}
 use Rattle.machine.specs.Starting.{loaded}
 use Rattle.machine.specs.Acting as machine
 use Rattle.fsm.specs.declared.DaliBitbangPhy.{DaliBitbangPhy}
@@ -38,7 +38,7 @@ use Rattle.reached.proofs.Holding.{invariants}
 use Rattle.reached.proofs.Between.{Same}
 use Rattle.reached.proofs.Walking.{all-any, all-same, walk}
 use Rattle.reached.proofs.Clashes.{clash-told}
-use Rattle.reached.proofs.ByState.{tick-tx}
+use Rattle.reached.proofs.ByState.{tick-by}
 
 -- ---- a start that is not refused
 isStarted : StartAnswer → Bool
@@ -50,10 +50,10 @@ refused : (x : StartAnswer) → isStarted x ≡ false → x ≡ start.Started �
 unfolding isStarted
 refused x e f = false≢true (sym e ∙ ap isStarted f)
 
-record Taken (s : DaliBitbangPhy) (hb : HalfBitBuffer) (answer allowed : Bool) (x : Started) : Type 0 where
-  was : allowed ≡ true
-  fits : lengthFits (hb .length) ≡ true
-  left : x .station ≡ loadedWith s hb answer
+pub record Taken (s : DaliBitbangPhy) (hb : HalfBitBuffer) (answer allowed : Bool) (x : Started) : Type 0 where
+  pub was : allowed ≡ true
+  pub fits : lengthFits (hb .length) ≡ true
+  pub left : x .station ≡ loadedWith s hb answer
 
 taken : (s : DaliBitbangPhy) (hb : HalfBitBuffer) (answer allowed : Bool)
     → pick {A = Started} allowed (started s hb answer) (startedWith s start.Busy) .answer ≡ start.Started
@@ -65,13 +65,13 @@ taken s hb answer allowed =
     (λ ok. cases P (lengthFits (hb .length)) (λ fits _. record { was = ok; fits = fits; left = refl }) (λ _ e. absurd (refused start.BadLength refl e)))
     (λ _ e. absurd (refused start.Busy refl e))
 
-some-length : (n : ℕ) → lengthFits n ≡ true → 0 < n
+pub some-length : (n : ℕ) → lengthFits n ≡ true → 0 < n
 unfolding lengthFits
 some-length n =
     cases (λ (t : Bool). t ≡ true → 0 < n) (eqb n 0) (λ _ e. absurd (false≢true e)) (λ some _. let s : n ≡ 0 → ⊥ = eqb-false n 0 some in omega (arith, s))
 
 -- ---- armed, after n ticks
-abbrev storeOf : HalfBitBuffer → TxHb
+abbrev pub storeOf : HalfBitBuffer → TxHb
 storeOf hb = record { «tx_hb_data» = hb .«data»; «tx_hb_len» = hb .length }
 
 record Waits (hb : HalfBitBuffer) (answer : Bool) (n : ℕ) (t : DaliBitbangPhy) : Type 0 where
@@ -101,8 +101,7 @@ module _ (hb : HalfBitBuffer) (answer : Bool) where
 
   module _ (n : ℕ) (t : DaliBitbangPhy) (h : Waits hb answer n t) (b : Bool) where
     by : (x : TxStep) → txStep (t .core .tx) (t .core .«collision_policy») (t .«tx_hb») b ≡ x → tickOf t b ≡ withCore t (stepped x (heardOf (t .core) b))
-    unfolding txTick heardOf
-    by x e = tick-tx t b (h .sending) ∙ ap (λ (y : TxStep). withCore t (stepped y (heardOf (t .core) b))) e
+    by = tick-by t b (h .sending)
 
     module _ (few : n < 3) where
       rule : txStep (t .core .tx) (t .core .«collision_policy») (t .«tx_hb») b ≡ pick b Arm (pick (t .core .tx .«tx_answer») Arm Yield)
@@ -165,10 +164,10 @@ answers hb n t h b few = waits-on hb true n t h b few (rule hb true n t h b few 
 
 -- ---- both starts
 module _ (s : DaliBitbangPhy) (r : Reached s) (hb : HalfBitBuffer) where
-  quiet : hears (s .core .bus .«bus_state») ≡ true → drives s ≡ true
+  pub quiet : hears (s .core .bus .«bus_state») ≡ true → drives s ≡ true
   quiet = invariants s r .released
 
-  idle-hears : (b : BusState) → isIdle b ≡ true → hears b ≡ true
+  pub idle-hears : (b : BusState) → isIdle b ≡ true → hears b ≡ true
   unfolding isIdle hears
   idle-hears bus.Idle e = refl
   idle-hears bus.Rx e = refl
@@ -176,7 +175,7 @@ module _ (s : DaliBitbangPhy) (r : Reached s) (hb : HalfBitBuffer) where
   idle-hears bus.CollisionTx e = absurd (false≢true e)
 
   module _ (ok : startTx s hb .answer ≡ start.Started) where
-    tx-taken : Taken s hb false (isIdle (s .core .bus .«bus_state»)) (startTx s hb)
+    pub tx-taken : Taken s hb false (isIdle (s .core .bus .«bus_state»)) (startTx s hb)
     unfolding startTx
     tx-taken = taken s hb false (isIdle (s .core .bus .«bus_state»)) ok
 
@@ -191,7 +190,7 @@ module _ (s : DaliBitbangPhy) (r : Reached s) (hb : HalfBitBuffer) where
         rw plain at on
 
   module _ (ok : startAnswer s hb .answer ≡ start.Started) where
-    answer-taken : Taken s hb true (hears (s .core .bus .«bus_state»)) (startAnswer s hb)
+    pub answer-taken : Taken s hb true (hears (s .core .bus .«bus_state»)) (startAnswer s hb)
     unfolding startAnswer
     answer-taken = taken s hb true (hears (s .core .bus .«bus_state»)) ok
 

@@ -1,11 +1,12 @@
 -- A tick in each state, and how states differ. Assumes nothing.
 use mathlib.Core.Bool.{Bool, false≢true}
-use mathlib.Core.Path.{_≡_, sym, ap}
+use mathlib.Core.Path.{_≡_, sym, ap, _∙_}
 use Rattle.laws.specs.Pick.{pick}
 use Rattle.machine.specs.declared.BusState.the-variants as bus
+use Rattle.machine.specs.declared.TxStep.{TxStep}
 use Rattle.machine.specs.Runs.{heardOf}
 use Rattle.machine.specs.Idle.{idleTick}
-use Rattle.machine.specs.Sending.{txTick}
+use Rattle.machine.specs.Sending.{txStep, stepped, txTick}
 use Rattle.machine.specs.Collision.{collisionTick}
 use Rattle.machine.specs.Acting as machine
 use Rattle.fsm.specs.declared.DaliBitbangPhy.{DaliBitbangPhy}
@@ -28,6 +29,11 @@ module _ (s : DaliBitbangPhy) (high : Bool) where
   pub tick-tx : IsSending s → tickOf s high ≡ withCore s (txTick (heardOf (s .core) high) (s .«tx_hb») high)
   unfolding tickOf actOf isRx machine.actOf pick
   tick-tx e = rw e
+
+  pub tick-by : IsSending s → (x : TxStep) → txStep (s .core .tx) (s .core .«collision_policy») (s .«tx_hb») high ≡ x
+      → tickOf s high ≡ withCore s (stepped x (heardOf (s .core) high))
+  unfolding txTick heardOf
+  tick-by sending x e = tick-tx sending ∙ ap (λ (y : TxStep). withCore s (stepped y (heardOf (s .core) high))) e
 
   pub tick-break : IsBreaking s → tickOf s high ≡ withCore s (collisionTick (heardOf (s .core) high) high)
   unfolding tickOf actOf isRx machine.actOf pick

@@ -36,12 +36,12 @@ use Rattle.fsm.specs.Ticking.{tickOf}
 use Rattle.fsm.specs.Starting.{isIdle, hears, lengthFits, startedWith, loadedWith, started, startTx, startAnswer}
 use Rattle.fsm.specs.Polling.{isTx, polled}
 use Rattle.reached.specs.Calls.{Call, tick, start-tx, start-answer, poll, take-idle, take-rx, acknowledge, policy, after, isBetween, Reached, new, called}
-use Rattle.reached.specs.Ticks.{drives}
+use Rattle.reached.specs.Ticks.{drives, IsSending, IsBreaking}
 use Rattle.reached.specs.OverTicks.{toSend, Watches, ClashSeen}
 use Rattle.reached.proofs.Cores.{In}
 use Rattle.reached.proofs.Stations.{reached-whole}
 use Rattle.reached.proofs.Between.{Same, between-same}
-use Rattle.reached.proofs.ByState.{tick-idle, tick-rx, tick-tx, tick-break, sending-not-breaking, idle-not-breaking, idle-not-sending}
+use Rattle.reached.proofs.ByState.{tick-idle, tick-rx, tick-tx, tick-by, tick-break, sending-not-breaking, idle-not-breaking, idle-not-sending}
 
 -- ---- within a half-bit the level kept for watching is the one that is driven
 abbrev Steady : Core → Type 0
@@ -199,9 +199,18 @@ clashed-told Clash s c e calm none =
 clashed-told Hold s c e calm none = absurd (false≢true e)
 clashed-told (Drive high) s c e calm none = absurd (false≢true e)
 
-is-high : (b : Bool) (n : ℕ) → n ≡ bit b → (n ≡ 0 → ⊥) → b ≡ true
+pub is-high : (b : Bool) (n : ℕ) → n ≡ bit b → (n ≡ 0 → ⊥) → b ≡ true
 is-high true n e some = refl
 is-high false n e some = absurd (some e)
+
+pub breaking-clash : (s : DaliBitbangPhy) (level : Bool) → IsSending s → IsBreaking (tickOf s level)
+    → clashOf (s .core .tx) (s .core .«collision_policy») (toSend s) level ≡ true
+unfolding heardOf
+breaking-clash s level sending breaking =
+    let x : TxStep = txStep (s .core .tx) (s .core .«collision_policy») (s .«tx_hb») level in
+    let e : tickOf s level ≡ withCore s (stepped x (heardOf (s .core) level)) = tick-by s level sending x refl in
+    step-clash (s .core .tx) (s .core .«collision_policy») (s .«tx_hb») level
+    (stepped-clash x (heardOf (s .core) level) sending (sym (ap (λ (t : DaliBitbangPhy). t .core .bus .«bus_state») e) ∙ breaking))
 
 pub clash-seen : ClashSeen
 unfolding txTick heardOf In
@@ -210,7 +219,7 @@ clash-seen s r sending level breaking =
     let x : TxStep = txStep (c .tx) (c .«collision_policy») (s .«tx_hb») level in
     let e : tickOf s level ≡ withCore s (stepped x c) = tick-tx s level sending in
     let is : isClash x ≡ true = stepped-clash x c sending (sym (ap (λ (t : DaliBitbangPhy). t .core .bus .«bus_state») e) ∙ breaking) in
-    let t : Told (s .core .tx) (s .core .«collision_policy») (toSend s) level = clash-told _ _ _ _ (step-clash (c .tx) (c .«collision_policy») (s .«tx_hb») level is) in
+    let t : Told (s .core .tx) (s .core .«collision_policy») (toSend s) level = clash-told _ _ _ _ (breaking-clash s level sending breaking) in
     let i : In bus.Tx (s .core .runs) (s .core .bus) (s .core .rx) (s .core .told)
     = subst (λ (b : BusState). In b (s .core .runs) (s .core .bus) (s .core .rx) (s .core .told)) sending (reached-whole s r .core .state) in
     let on : drives s ≡ true = is-high (drives s) _ (steady s r sending (t .left)) (t .released) in

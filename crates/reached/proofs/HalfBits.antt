@@ -39,9 +39,9 @@ use Rattle.reached.proofs.Cores.{In}
 use Rattle.reached.proofs.Stations.{reached-whole}
 use Rattle.reached.proofs.Between.{Same}
 use Rattle.reached.proofs.Walking.{reached-all, all-any, walk}
-use Rattle.reached.proofs.Clashes.{Told, clash-told, told-clash}
+use Rattle.reached.proofs.Clashes.{Told, clash-told, told-clash, is-high}
 use Rattle.reached.proofs.Breaking.{tick-on}
-use Rattle.reached.proofs.ByState.{tick-tx, sending-not-breaking}
+use Rattle.reached.proofs.ByState.{tick-tx, tick-by, sending-not-breaking}
 
 -- ---- the tick that begins a half-bit
 isDrive : TxStep → Bool
@@ -107,7 +107,7 @@ pub half-bits-driven : HalfBitsDriven
 unfolding driven heardOf
 half-bits-driven s level b = record {
   sending = ap (λ (t : DaliBitbangPhy). t .core .bus .«bus_state») (begin-tick s level b) ∙ b .sending;
-  level-of = ap (λ (t : DaliBitbangPhy). drives t) (begin-tick s level b);
+  driven = ap (λ (t : DaliBitbangPhy). drives t) (begin-tick s level b);
 }
 
 -- ---- n ticks after it
@@ -136,8 +136,7 @@ module _ (first : DaliBitbangPhy) (more : begun first < toSend first) (n : ℕ) 
       simp (on-true (eq-eqb _ _ (h .unarmed)), on-false (lt-leb _ _ within))
 
   by : (x : TxStep) → txStep (t .core .tx) (t .core .«collision_policy») (t .«tx_hb») b ≡ x → tickOf t b ≡ withCore t (stepped x (heardOf (t .core) b))
-  unfolding txTick heardOf
-  by x e = tick-tx t b (h .sending) ∙ ap (λ (y : TxStep). withCore t (stepped y (heardOf (t .core) b))) e
+  by = tick-by t b (h .sending)
 
   module _ (clash : clashOf (t .core .tx) (t .core .«collision_policy») (toSend t) b ≡ true) where
     clash-tick : IsBreaking (tickOf t b) × (tickOf t b .core .tx .«tx_sp_cnt» ≡ 0)
@@ -175,11 +174,13 @@ module _ (first : DaliBitbangPhy) (more : begun first < toSend first) (n : ℕ) 
   of-clash : clashOf (t .core .tx) (t .core .«collision_policy») (toSend t) b ≡ true → IsClash (n + 2) t b
   of-clash e =
       let k : Told (t .core .tx) (t .core .«collision_policy») (toSend t) b = clash-told _ _ _ _ e in
-      record { released = h .level ∙ lit (drives first) (λ z. k .released (h .watch ∙ z)); watched = k .watches; third = omega (arith, h .left, k .few); fourth = omega (arith, h .left, k .left); fell = k .fell }
-    where
-      lit : (x : Bool) → (bit x ≡ 0 → ⊥) → x ≡ true
-      lit true some = refl
-      lit false some = absurd (some refl)
+      record {
+        released = h .level ∙ is-high (drives first) _ (h .watch) (k .released);
+        watched = k .watches;
+        third = omega (arith, h .left, k .few);
+        fourth = omega (arith, h .left, k .left);
+        fell = k .fell;
+      }
 
   module _ (few : n ≤ 3) (short : toSend first ≤ 54) where
     on-calm : clashOf (t .core .tx) (t .core .«collision_policy») (toSend t) b ≡ false → IsSending (tickOf t b)

@@ -12,3 +12,4 @@ pub mod Captures
 pub mod HalfBits
 pub mod Arming
 pub mod Counts
+pub mod Timing

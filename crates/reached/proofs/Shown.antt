@@ -31,12 +31,13 @@ use Rattle.fsm.specs.declared.StartAnswer.the-variants as start
 use Rattle.fsm.specs.Polling.{isTx, polled}
 use Rattle.fsm.specs.Starting.{isIdle, hears, lengthFits, loadedWith, started, startTx, startAnswer}
 use Rattle.reached.specs.Calls.{Call, tick, start-tx, poll, after, afterAll, isAnswer, NoAnswer, Reached, new, called}
-use Rattle.reached.specs.Ticks.{IsIdle, IsSending, IsBreaking, highsRunning, levelIn, levelsIn}
-use Rattle.reached.specs.OverTicks.{NoLow, OneLow, Hears, begun, toSend, Begins, Yields, Watches, IsClash, Sent, Break}
+use Rattle.reached.specs.Ticks.{IsIdle, IsSending, IsBreaking, StaysSending, highsRunning, levelIn, levelsIn}
+use Rattle.reached.specs.OverTicks.{NoLow, OneLow, Hears, begun, toSend, Begins, Yields, Watches, IsClash, Sent, a-frame, Break}
 use Rattle.reached.proofs.Captures.{capture-ends}
 use Rattle.reached.proofs.HalfBits.{half-bit-ticks, last-half-bit}
 use Rattle.reached.proofs.Arming.{frame-armed, answer-armed}
 use Rattle.reached.proofs.Breaking.{breaks}
+use Rattle.reached.proofs.Timing.{sends-on-time}
 
 -- the same call so many times
 times : ℕ → Call → List Call → List Call
@@ -203,3 +204,10 @@ frame-used = frame-armed newStation new released (asked .frame-taken) (times 2 h
 answer-used : Begins (afterAll (times 3 low []) (startAnswer (run (times 2 low [])) released .station)) false
 unfolding times run low high released sends clash capture after newStation newCore tickOf isRx actOf machine.actOf rxTick heardOf idled idleTick entered sampled highRun storedRx filled finishedRx finished startTx isIdle lengthFits started loadedWith loaded txTick txStep clashOf watchesOf releasesAt stepped armed held driven clashed collisionTick broke pick hears short startAnswer Watches levelsIn levelIn
 answer-used = answer-armed (run (times 2 low [])) (reached (times 2 low [])) released (asked .answer-taken) (times 3 low []) .0 .first refl false
+
+-- by the number of ticks: the seventh after the start is the fourth of the first half-bit, and low it is a clash
+time-used : IsBreaking (tickOf (afterAll (times 6 high []) (startTx newStation released .station)) false)
+unfolding times run low high released sends clash capture after newStation newCore tickOf isRx actOf machine.actOf rxTick heardOf idled idleTick entered sampled highRun storedRx filled finishedRx finished startTx isIdle lengthFits started loadedWith loaded txTick txStep clashOf watchesOf releasesAt stepped armed held driven clashed collisionTick broke pick hears short startAnswer Watches afterAll levelsIn levelIn StaysSending
+time-used =
+    sends-on-time newStation new released _ (a-frame (asked .frame-taken)) (times 6 high []) (refl, (refl, (refl, (refl, (refl, (refl, refl)))))) .clash false (omega arith) (omega arith)
+    (record { released = refl; watched = λ e. omega (arith, e); third = omega arith; fourth = omega arith; fell = refl })

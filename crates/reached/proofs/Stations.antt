@@ -132,7 +132,7 @@ module _ (s : DaliBitbangPhy) (w : Whole s) (high : Bool) where
   tick-whole = act-whole (s .core .bus .«bus_state») refl
 
 -- ---- the other calls
-fits : (n : ℕ) → lengthFits n ≡ true → n ≤ 54
+pub fits : (n : ℕ) → lengthFits n ≡ true → n ≤ 54
 unfolding lengthFits
 fits n = cases (λ (t : Bool). t ≡ true → n ≤ 54) (eqb n 0) (λ _ e. absurd (false≢true e)) (λ _ e. leb-true n 54 e)
 

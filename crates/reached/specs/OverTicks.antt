@@ -1,6 +1,6 @@
 -- Document 01, "Machine", over ticks: its sentences that speak of several ticks, for every station that calls lead to, whatever levels it
 -- samples and whatever else the host calls between the ticks. `low` and `high` are levels. Assumes nothing.
-use Prim.Native.Nat.{ℕ, _+_, _*_, _/_, _≤_, _<_, min}
+use Prim.Native.Nat.{ℕ, _+_, _-_, _*_, _/_, _%_, _≤_, _<_, min}
 use mathlib.Core.Bool.{Bool, not}
 use mathlib.Core.List.{List}
 use mathlib.Core.Logic.{_⊎_}
@@ -25,7 +25,7 @@ use Rattle.fsm.specs.Refusals.{numberOf}
 use Rattle.fsm.specs.Polling.{polled}
 use Rattle.fsm.specs.Calls.{tookIdle}
 use Rattle.reached.specs.Calls.{Call, afterAll, NoAnswer, Reached}
-use Rattle.reached.specs.Ticks.{drives, IsIdle, IsCapturing, IsSending, IsBreaking, highsRunning, levelsIn, ticksIn}
+use Rattle.reached.specs.Ticks.{drives, IsIdle, IsCapturing, IsSending, IsBreaking, StaysSending, highsRunning, levelsIn, ticksIn}
 
 -- ---- run lengths
 abbrev pub runOf : Bool → DaliBitbangPhy → ℕ
@@ -127,10 +127,14 @@ pub record Begins (s : DaliBitbangPhy) (level : Bool) : Type 0 where
   pub sending : IsSending s
   pub one-more : begun (tickOf s level) ≡ begun s + 1
 
--- The first tick of a half-bit drives it: one bit of the store a half-bit, top bit first, where 0 leaves the line high.
+-- one bit of a store a half-bit, top bit first, where 0 leaves the line high
+abbrev pub levelOf : List ℕ → ℕ → Bool
+levelOf store k = releasesAt (getD store (k / 8) 0) k
+
+-- The first tick of a half-bit drives it.
 pub record Drives (s : DaliBitbangPhy) (level : Bool) : Type 0 where
   pub sending : IsSending (tickOf s level)
-  pub level-of : drives (tickOf s level) ≡ releasesAt (getD (s .«tx_hb» .«tx_hb_data») (begun s / 8) 0) (begun s)
+  pub driven : drives (tickOf s level) ≡ levelOf (s .«tx_hb» .«tx_hb_data») (begun s)
 
 abbrev pub HalfBitsDriven : Type 0
 HalfBitsDriven = (s : DaliBitbangPhy) (level : Bool) → Begins s level → Drives s level
@@ -215,6 +219,25 @@ pub record SeesClash (s : DaliBitbangPhy) (level : Bool) : Type 0 where
 
 abbrev pub ClashSeen : Type 0
 ClashSeen = (s : DaliBitbangPhy) → Reached s → IsSending s → (level : Bool) → IsBreaking (tickOf s level) → SeesClash s level
+
+-- The same by the number of ticks since the start, for a station that has been sending all along. Three ticks are armed, tick 4 + 4j drives
+-- half-bit j, and the last two ticks before the next half-bit begins are watched, but no other tick, and none of the last half-bit.
+pub record OnTime (hb : HalfBitBuffer) (n : ℕ) (t : DaliBitbangPhy) : Type 0 where
+  pub count : begun t ≡ n / 4
+  pub armed : n < 4 → drives t ≡ high
+  pub driven : 4 ≤ n → drives t ≡ levelOf (hb .«data») (n / 4 - 1)
+  pub clash : (level : Bool) → 4 ≤ n → n / 4 < hb .length → IsClash (n % 4 + 2) t level → IsBreaking (tickOf t level)
+  pub no-other : (level : Bool) → IsBreaking (tickOf t level) → (4 ≤ n) × (n / 4 < hb .length) × IsClash (n % 4 + 2) t level
+
+-- what a start leaves that isn't refused
+pub data Starts (s : DaliBitbangPhy) (hb : HalfBitBuffer) : DaliBitbangPhy → Type 0 where
+  a-frame : startTx s hb .answer ≡ start.Started → Starts s hb (startTx s hb .station)
+  an-answer : startAnswer s hb .answer ≡ start.Started → Starts s hb (startAnswer s hb .station)
+
+abbrev pub SendsOnTime : Type 0
+SendsOnTime =
+    (s : DaliBitbangPhy) → Reached s → (hb : HalfBitBuffer) (t : DaliBitbangPhy) → Starts s hb t
+    → (calls : List Call) → StaysSending calls t → OnTime hb (ticksIn calls) (afterAll calls t)
 
 -- ---- Collision
 -- A break of which so many ticks have passed: twelve are low, and the line is released on the thirteenth. Starts are refused by 7. Once the

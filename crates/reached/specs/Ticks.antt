@@ -8,7 +8,7 @@ use Rattle.laws.specs.Pick.{pick}
 use Rattle.machine.specs.declared.BusState.the-variants as bus
 use Rattle.fsm.specs.declared.DaliBitbangPhy.{DaliBitbangPhy}
 use Rattle.fsm.specs.Ticking.{tickOf}
-use Rattle.reached.specs.Calls.{Call, tick, start-tx, start-answer, poll, take-idle, take-rx, acknowledge, policy}
+use Rattle.reached.specs.Calls.{Call, tick, start-tx, start-answer, poll, take-idle, take-rx, acknowledge, policy, after}
 
 abbrev pub drives : DaliBitbangPhy → Bool
 drives s = s .core .bus .«driven_high»
@@ -58,3 +58,8 @@ levelsIn (c ∷ cs) = levelIn c ++ levelsIn cs
 
 abbrev pub ticksIn : List Call → ℕ
 ticksIn calls = length (levelsIn calls)
+
+-- it is sending before these calls, and after each of them
+unfoldable pub StaysSending : List Call → DaliBitbangPhy → Type 0
+StaysSending [] s = IsSending s
+StaysSending (c ∷ cs) s = IsSending s × StaysSending cs (after c s)
