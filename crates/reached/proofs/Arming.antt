@@ -97,7 +97,15 @@ module _ (hb : HalfBitBuffer) (answer : Bool) where
       let bus : u .core .bus ≡ t .core .bus = same .bus in
       let tx : u .core .tx ≡ t .core .tx = same .tx in
       let store : u .«tx_hb» ≡ t .«tx_hb» = same .halfbits in
-      record { sending = rw bus (h .sending); left = rw tx (h .left); released = rw bus (h .released); none = rw tx (h .none); fresh = rw tx (h .fresh); kind = rw tx (h .kind); store = rw store (h .store) }
+      record {
+        sending = rw bus (h .sending);
+        left = rw tx (h .left);
+        released = rw bus (h .released);
+        none = rw tx (h .none);
+        fresh = rw tx (h .fresh);
+        kind = rw tx (h .kind);
+        store = rw store (h .store);
+      }
 
   module _ (n : ℕ) (t : DaliBitbangPhy) (h : Waits hb answer n t) (b : Bool) where
     by : (x : TxStep) → txStep (t .core .tx) (t .core .«collision_policy») (t .«tx_hb») b ≡ x → tickOf t b ≡ withCore t (stepped x (heardOf (t .core) b))
@@ -185,7 +193,9 @@ module _ (s : DaliBitbangPhy) (r : Reached s) (hb : HalfBitBuffer) where
         let count : ticksIn calls ≡ n = ap length e ∙ length-replicate n true in
         let begin : Waits hb false 0 (startTx s hb .station) = rw (tx-taken .left) (waits s hb false (quiet (idle-hears _ (tx-taken .was)))) in
         let on : Waits hb false (0 + ticksIn calls) (afterAll calls (startTx s hb .station))
-        = walk (Waits hb false) (λ x. x ≡ true) 3 (deaf hb false) (kept hb false) (λ k t b h less w. waits-on hb false k t w b less (rule hb false k t w b less ∙ rw h)) calls 0 (startTx s hb .station) (rw e (all-same n true)) begin (omega arith) in
+        = walk (Waits hb false) (λ x. x ≡ true) 3 (deaf hb false) (kept hb false)
+        (λ k t b h less w. waits-on hb false k t w b less (rule hb false k t w b less ∙ rw h))
+        calls 0 (startTx s hb .station) (rw e (all-same n true)) begin (omega arith) in
         let plain : 0 + ticksIn calls ≡ n = omega arith in
         rw plain at on
 
@@ -198,15 +208,20 @@ module _ (s : DaliBitbangPhy) (r : Reached s) (hb : HalfBitBuffer) where
     answer-waits calls few =
         let begin : Waits hb true 0 (startAnswer s hb .station) = rw (answer-taken .left) (waits s hb true (quiet (answer-taken .was))) in
         let on : Waits hb true (0 + ticksIn calls) (afterAll calls (startAnswer s hb .station))
-        = walk (Waits hb true) (λ _. Unit {0}) 3 (deaf hb true) (kept hb true) (λ k t b _ less w. answers hb k t w b less) calls 0 (startAnswer s hb .station) (all-any (levelsIn calls)) begin (omega arith) in
+        = walk (Waits hb true) (λ _. Unit {0}) 3 (deaf hb true) (kept hb true) (λ k t b _ less w. answers hb k t w b less)
+        calls 0 (startAnswer s hb .station) (all-any (levelsIn calls)) begin (omega arith) in
         rw (zero-add (ticksIn calls)) at on
 
 pub frame-armed : FrameArmed
 frame-armed s r hb ok calls n e =
-    let t : DaliBitbangPhy = afterAll calls (startTx s hb .station) in
-    (armed-for hb false n t (frame-waits s r hb ok calls n e) (some-length _ (tx-taken s r hb ok .fits)), λ few. yields hb n t (frame-waits s r hb ok calls n e (omega arith)) few)
+    let t : DaliBitbangPhy = afterAll calls (startTx s hb .station) in (
+      armed-for hb false n t (frame-waits s r hb ok calls n e) (some-length _ (tx-taken s r hb ok .fits)),
+      λ few. yields hb n t (frame-waits s r hb ok calls n e (omega arith)) few,
+    )
 
 pub answer-armed : AnswerArmed
 answer-armed s r hb ok calls =
-    let t : DaliBitbangPhy = afterAll calls (startAnswer s hb .station) in
-    (armed-for hb true (ticksIn calls) t (answer-waits s r hb ok calls) (some-length _ (answer-taken s r hb ok .fits)), λ few. answers hb (ticksIn calls) t (answer-waits s r hb ok calls (omega arith)) low few .sending)
+    let t : DaliBitbangPhy = afterAll calls (startAnswer s hb .station) in (
+      armed-for hb true (ticksIn calls) t (answer-waits s r hb ok calls) (some-length _ (answer-taken s r hb ok .fits)),
+      λ few. answers hb (ticksIn calls) t (answer-waits s r hb ok calls (omega arith)) low few .sending,
+    )

@@ -102,7 +102,9 @@ module _ (n : ℕ) (t : DaliBitbangPhy) (breaking : IsBreaking t) (passed : t .c
 module _ (n : ℕ) (t : DaliBitbangPhy) (h : At n t) (level : Bool) where
   pub goes-on : n < 13 → At (suc n) (tickOf t level)
   unfolding heardOf
-  goes-on few = rw (tick-on n t (h .breaking) (h .passed) level few) (record { breaking = h .breaking; passed = refl; waits = λ e. absurd (let no : ⊥ = omega arith in no); driving = λ _. refl })
+  goes-on few =
+      rw (tick-on n t (h .breaking) (h .passed) level few)
+      (record { breaking = h .breaking; passed = refl; waits = λ e. absurd (let no : ⊥ = omega arith in no); driving = λ _. refl })
 
   ends : n ≡ 13 → Broke level (tickOf t level)
   ends last = rw (tick-last n t (h .breaking) (h .passed) level last) (sampled-there t level)
@@ -157,7 +159,8 @@ pub break-at : (s : DaliBitbangPhy) → Reached s → (level : Bool) → IsSendi
     → At (ticksIn calls) (afterAll calls (tickOf s level))
 break-at s r level sending clash calls few =
     let h : At (0 + ticksIn calls) (afterAll calls (tickOf s level))
-    = walk At (λ _. Unit {0}) 13 deaf kept (λ n t b _ less h. goes-on n t h b less) calls 0 (tickOf s level) (all-any (levelsIn calls)) (begins s r level sending clash) (omega arith) in
+    = walk At (λ _. Unit {0}) 13 deaf kept (λ n t b _ less h. goes-on n t h b less)
+    calls 0 (tickOf s level) (all-any (levelsIn calls)) (begins s r level sending clash) (omega arith) in
     rw (zero-add (ticksIn calls)) at h
 
 in-break : (n : ℕ) (t : DaliBitbangPhy) → Reached t → At n t → InBreak n t

@@ -47,6 +47,10 @@ pub idle-not-breaking : bus.Idle ≡ bus.CollisionTx → ⊥
 unfolding isIdle
 idle-not-breaking e = false≢true (sym (ap isIdle e))
 
+pub idle-not-capturing : bus.Idle ≡ bus.Rx → ⊥
+unfolding isIdle
+idle-not-capturing e = false≢true (sym (ap isIdle e))
+
 pub idle-not-sending : bus.Idle ≡ bus.Tx → ⊥
 unfolding isIdle
 idle-not-sending e = false≢true (sym (ap isIdle e))

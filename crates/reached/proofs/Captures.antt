@@ -12,7 +12,6 @@ use Rattle.laws.specs.Pick.{pick}
 use Rattle.laws.specs.Tabulate.{tabulate}
 use Rattle.laws.proofs.Tabulated.{length-tabulate}
 use Rattle.halfbits.specs.declared.HalfBitBuffer.{HalfBitBuffer}
-use Rattle.machine.specs.declared.BusState.the-variants as bus
 use Rattle.machine.specs.Runs.{heardOf}
 use Rattle.machine.specs.Idle.{entered, idleTick}
 use Rattle.machine.specs.Acting as machine
@@ -23,6 +22,7 @@ use Rattle.reached.specs.Calls.{Call, tick, start-tx, start-answer, poll
 use Rattle.reached.specs.Ticks.{IsIdle, IsCapturing, highsRunning, levelIn, levelsIn}
 use Rattle.reached.specs.OverTicks.{idleCount, NoLow, OneLow, InIdle, IdleTicks, Hears, Captures, Captured, CaptureEnds}
 use Rattle.reached.proofs.Holding.{invariants}
+use Rattle.reached.proofs.ByState.{idle-not-capturing}
 use Rattle.reached.proofs.Between.{Same, itself, between-same, tx-refused}
 use Rattle.reached.proofs.Capturing.{HearingOn, hearing-kept, on-next, on-end, second-low-on, first-low}
 
@@ -43,7 +43,7 @@ module _ (s : DaliBitbangPhy) (idle : IsIdle s) where
   unfolding tickOf actOf isRx machine.actOf idleTick heardOf pick
   counted = rw idle
 
-  -- a low tick alone is remembered, two are not forgotten, and both leave the idle count
+  -- neither the first low tick nor the second changes the idle count
   kept-first : s .core .bus .«rx_debounce» ≡ 0 → idleCount (tickOf s false) ≡ idleCount s
   unfolding tickOf actOf isRx machine.actOf idleTick heardOf pick
   kept-first e = rw (idle, e)
@@ -51,10 +51,6 @@ module _ (s : DaliBitbangPhy) (idle : IsIdle s) where
   kept-second : s .core .bus .«rx_debounce» ≡ 1 → idleCount (tickOf s false) ≡ idleCount s
   unfolding tickOf actOf isRx machine.actOf idleTick entered heardOf pick
   kept-second e = rw (idle, e)
-
-idle-not-capturing : bus.Idle ≡ bus.Rx → ⊥
-unfolding isIdle
-idle-not-capturing e = false≢true (sym (ap isIdle e))
 
 module _ (s : DaliBitbangPhy) (r : Reached s) (idle : IsIdle s) where
   at-most : s .core .bus .«rx_debounce» ≤ 1

@@ -195,11 +195,9 @@ module _ (base : DaliBitbangPhy) (level : ℕ → Bool) where
     pub on-end : highsRunning (suc m) level ≡ 16 → over.Captured base level (suc m) (tickOf s (level m))
     on-end full =
         let over : 16 ≤ sampled (s .core .rx) (level m) .«rx_idle» = omega (arith, then .idle) in
-        rw (tick-end s (level m) (h .in-rx) (le-ltb _ _ over)) (whole (sampled (s .core .rx) (level m)) (filled (s .«rx_data») (s .core .rx) (level m)) then then-bytes (pre-kept (s .core .rx) (level m) ∙ h .silence))
-      where
-        whole : (r : Rx) (bytes : List ℕ) → Sampled level (suc m) r → Store (base .«rx_data») level (suc m / 8) bytes → r .«rx_pre_idle» ≡ min (idleCount base) 255
-            → over.Captured base level (suc m) (finishedRx s (finished (heardOf (s .core) (level m)) r) r bytes)
-        whole r bytes c b pre = ended s (level m) r bytes base level (suc m) (c .pos) b pre
+        rw (tick-end s (level m) (h .in-rx) (le-ltb _ _ over))
+        (ended s (level m) (sampled (s .core .rx) (level m)) (filled (s .«rx_data») (s .core .rx) (level m)) base level (suc m) (then .pos) then-bytes
+        (pre-kept (s .core .rx) (level m) ∙ h .silence))
 
 -- ---- ticks in Idle
 -- The second low tick running starts Rx, with two low levels sampled.

@@ -146,9 +146,12 @@ clash-told tx p len high =
     (λ fell. cases P (eqb (tx .«tx_high») 0) (λ _ e. absurd (false≢true e))
     (λ on. cases P (watchesOf p len)
     (λ w. cases P (eqb (tx .«tx_sp_cnt») 1)
-    (λ one _. let n : tx .«tx_sp_cnt» ≡ 1 = eqb-true _ _ one in record { fell = fell; released = eqb-false _ _ on; watches = watched p len w; left = omega arith; few = omega arith })
-    (λ _ two. let n : tx .«tx_sp_cnt» ≡ 2 = eqb-true _ _ two in record { fell = fell; released = eqb-false _ _ on; watches = watched p len w; left = omega arith; few = omega arith }))
+    (λ one _. let n : tx .«tx_sp_cnt» ≡ 1 = eqb-true _ _ one in found fell (eqb-false _ _ on) (watched p len w) (omega arith) (omega arith))
+    (λ _ two. let n : tx .«tx_sp_cnt» ≡ 2 = eqb-true _ _ two in found fell (eqb-false _ _ on) (watched p len w) (omega arith) (omega arith)))
     (λ _ e. absurd (false≢true e))))
+  where
+    found : high ≡ false → (tx .«tx_high» ≡ 0 → ⊥) → Watches p len → 1 ≤ tx .«tx_sp_cnt» → tx .«tx_sp_cnt» ≤ 2 → Told tx p len high
+    found fell on w left few = record { fell = fell; released = on; watches = w; left = left; few = few }
 
 pub told-clash : (tx : Tx) (p : CollisionPolicy) (len : ℕ) (high : Bool) → Told tx p len high → clashOf tx p len high ≡ true
 unfolding clashOf

@@ -225,7 +225,15 @@ kept-half first n t u same h =
     let bus : u .core .bus ≡ t .core .bus = same .bus in
     let tx : u .core .tx ≡ t .core .tx = same .tx in
     let hb : u .«tx_hb» ≡ t .«tx_hb» = same .halfbits in
-    record { sending = rw bus (h .sending); unarmed = rw tx (h .unarmed); left = rw tx (h .left); watch = rw tx (h .watch); level = rw bus (h .level); count = rw tx (h .count); store = rw hb (h .store) }
+    record {
+      sending = rw bus (h .sending);
+      unarmed = rw tx (h .unarmed);
+      left = rw tx (h .left);
+      watch = rw tx (h .watch);
+      level = rw bus (h .level);
+      count = rw tx (h .count);
+      store = rw hb (h .store);
+    }
 
 module _ (first : DaliBitbangPhy) (more : begun first < toSend first) where
   abbrev Goes : ℕ → DaliBitbangPhy → Type 0
@@ -253,7 +261,9 @@ module _ (first : DaliBitbangPhy) (more : begun first < toSend first) where
 
   goes : (calls : List Call) (t : DaliBitbangPhy) → InHalf first 0 t → ticksIn calls ≤ 3 → IsSending (afterAll calls t) → InHalf first (ticksIn calls) (afterAll calls t)
   goes calls t h few sending =
-      let g : Goes (0 + ticksIn calls) (afterAll calls t) = walk Goes (λ _. Unit {0}) 3 deaf kept (λ n u b _ less k. ticks n u b less k) calls 0 t (all-any (levelsIn calls)) (inl h) (omega arith) in
+      let g : Goes (0 + ticksIn calls) (afterAll calls t)
+      = walk Goes (λ _. Unit {0}) 3 deaf kept (λ n u b _ less k. ticks n u b less k)
+      calls 0 t (all-any (levelsIn calls)) (inl h) (omega arith) in
       ⊎-elim (λ k. k) (λ k. absurd (sending-not-breaking (sym sending ∙ k .breaking))) (rw (zero-add (ticksIn calls)) at g)
 
 pub half-bit-ticks : HalfBitTicks
@@ -278,7 +288,9 @@ half-bit-ticks s r level b more calls few sending next =
 stays : (first : DaliBitbangPhy) (calls : List Call) (t : DaliBitbangPhy) → InHalf first 0 t → ticksIn calls ≡ 0 → InHalf first 0 (afterAll calls t)
 stays first calls t h none =
     let g : InHalf first (0 + ticksIn calls) (afterAll calls t)
-    = walk (InHalf first) (λ _. Unit {0}) 0 (λ n u k. deaf-half first n u k) (λ n u v same k. kept-half first n u v same k) (λ n u b _ less k. absurd (not-suc-le-zero less)) calls 0 t (all-any (levelsIn calls)) h (omega arith) in
+    = walk (InHalf first) (λ _. Unit {0}) 0 (deaf-half first) (kept-half first)
+    (λ n u b _ less k. absurd (not-suc-le-zero less))
+    calls 0 t (all-any (levelsIn calls)) h (omega arith) in
     rw none at g
 
 end-tick : (first t : DaliBitbangPhy) → InHalf first 0 t → begun first ≡ toSend first → (b : Bool) → tickOf t b ≡ withCore t (idled (heardOf (t .core) b))
@@ -291,7 +303,8 @@ idle-now : (t : DaliBitbangPhy) (b : Bool) → NoLow (withCore t (idled (heardOf
 unfolding idled heardOf tickOf actOf isRx machine.actOf idleTick pick
 idle-now t b = record { idle = refl; alone = refl }
 
-idle-told : (t : DaliBitbangPhy) (b : Bool) → t .core .told .«tx_yielded» ≡ false → t .core .told .«tx_collision» ≡ 0 → polled (withCore t (idled (heardOf (t .core) b))) .answer ≡ Ok
+idle-told : (t : DaliBitbangPhy) (b : Bool) → t .core .told .«tx_yielded» ≡ false → t .core .told .«tx_collision» ≡ 0
+    → polled (withCore t (idled (heardOf (t .core) b))) .answer ≡ Ok
 unfolding idled heardOf polled isTx pick
 idle-told t b calm none = rw (calm, none)
 
@@ -303,5 +316,6 @@ last-half-bit s r level b all calls none next =
     let same : first .«tx_hb» ≡ s .«tx_hb» = ap (λ (u : DaliBitbangPhy). u .«tx_hb») (begin-tick s level b) in
     let h : InHalf first 0 t = stays first calls first (half-begins s level b) none in
     let i : In bus.Tx (t .core .runs) (t .core .bus) (t .core .rx) (t .core .told)
-    = subst (λ (x : BusState). In x (t .core .runs) (t .core .bus) (t .core .rx) (t .core .told)) (h .sending) (reached-whole t (reached-all calls first (called (tick level) r)) .core .state) in
+    = subst (λ (x : BusState). In x (t .core .runs) (t .core .bus) (t .core .rx) (t .core .told)) (h .sending)
+    (reached-whole t (reached-all calls first (called (tick level) r)) .core .state) in
     rw (end-tick first t h (rw same all) next) (record { idle = idle-now t next; told = idle-told t next (i .kept) (i .clear) })

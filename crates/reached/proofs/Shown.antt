@@ -32,7 +32,7 @@ use Rattle.fsm.specs.Polling.{isTx, polled}
 use Rattle.fsm.specs.Starting.{isIdle, hears, lengthFits, loadedWith, started, startTx, startAnswer}
 use Rattle.reached.specs.Calls.{Call, tick, start-tx, poll, after, afterAll, isAnswer, NoAnswer, Reached, new, called}
 use Rattle.reached.specs.Ticks.{IsIdle, IsSending, IsBreaking, StaysSending, highsRunning, levelIn, levelsIn}
-use Rattle.reached.specs.OverTicks.{NoLow, OneLow, Hears, begun, toSend, Begins, Yields, Watches, IsClash, Sent, a-frame, Break}
+use Rattle.reached.specs.OverTicks.{NoLow, OneLow, Hears, Captured, begun, toSend, Begins, Yields, Watches, IsClash, Sent, a-frame, Break}
 use Rattle.reached.proofs.Captures.{capture-ends}
 use Rattle.reached.proofs.HalfBits.{half-bit-ticks, last-half-bit}
 use Rattle.reached.proofs.Arming.{frame-armed, answer-armed}
@@ -91,6 +91,52 @@ unfolding times run low high released sends clash capture after newStation newCo
 leads = record { debounces = refl; receives = refl; completes = refl; sends-it = refl; breaks = refl; collides = refl; finds-idle = refl }
 
 -- ---- what the statements over ticks ask for
+-- one half-bit to be sent
+short : HalfBitBuffer
+short = record { «data» = 0 ∷ 0 ∷ 0 ∷ 0 ∷ 0 ∷ 0 ∷ 0 ∷ []; length = 1 }
+
+-- a station whose next tick is the fourth after a start
+waits : HalfBitBuffer → DaliBitbangPhy
+waits hb = run (times 3 high (start-tx hb ∷ []))
+
+record Asked : Type 0 where
+  none-yet : NoLow newStation
+  one-yet : OneLow (run (low ∷ []))
+  frame-taken : startTx newStation released .answer ≡ start.Started
+  answer-taken : startAnswer (run (times 2 low [])) released .answer ≡ start.Started
+  -- a half-bit that isn't the last, its second tick and a poll, and a low third tick
+  half-bit : Begins (waits released) true
+  not-last : begun (tickOf (waits released) true) < toSend (waits released)
+  goes-on : IsSending (afterAll (high ∷ poll ∷ []) (tickOf (waits released) true))
+  third : IsClash 3 (afterAll (high ∷ poll ∷ []) (tickOf (waits released) true)) false
+  -- one that is
+  last : Begins (waits short) true
+  all-begun : begun (tickOf (waits short) true) ≡ toSend (waits short)
+  -- six ticks after a start, and a low seventh
+  stays : StaysSending (times 6 high []) (startTx newStation released .station)
+  fourth : IsClash 4 (afterAll (times 6 high []) (startTx newStation released .station)) false
+  sees : IsSending (run (times 5 high sends)) × IsBreaking (tickOf (run (times 5 high sends)) false)
+  becomes-idle : (IsIdle (run (times 15 high (times 2 low []))) → ⊥) × IsIdle (tickOf (run (times 15 high (times 2 low []))) true)
+
+asked : Asked
+unfolding times run low high released sends clash capture after newStation newCore tickOf isRx actOf machine.actOf rxTick heardOf idled idleTick entered sampled highRun storedRx filled finishedRx finished startTx isIdle lengthFits started loadedWith loaded txTick txStep clashOf watchesOf releasesAt stepped armed held driven clashed collisionTick broke pick hears short waits startAnswer Watches afterAll StaysSending polled isTx
+asked = record {
+  none-yet = record { idle = refl; alone = refl };
+  one-yet = record { idle = refl; second = refl };
+  frame-taken = refl;
+  answer-taken = refl;
+  half-bit = record { sending = refl; one-more = refl };
+  not-last = omega arith;
+  goes-on = refl;
+  third = record { released = refl; watched = λ e. omega (arith, e); third = omega arith; fourth = omega arith; fell = refl };
+  last = record { sending = refl; one-more = refl };
+  all-begun = refl;
+  stays = (refl, (refl, (refl, (refl, (refl, (refl, refl))))));
+  fourth = record { released = refl; watched = λ e. omega (arith, e); third = omega arith; fourth = omega arith; fell = refl };
+  sees = (refl, refl);
+  becomes-idle = (λ e. false≢true (ap isIdle e), refl);
+}
+
 -- calls whose ticks sample any levels, with a poll after each
 polling : ℕ → (ℕ → Bool) → List Call
 polling zero f = []
@@ -106,18 +152,19 @@ unfolding polling NoAnswer isAnswer
 polling-no-answer zero f = tt
 polling-no-answer (suc n) f = (refl, (refl, polling-no-answer n (λ i. f (suc i))))
 
+-- ticks that sample one level
 ticks-of : (n : ℕ) (level : Bool) → levelsIn (times n (tick level) []) ≡ replicate n level
 unfolding times levelsIn levelIn
 ticks-of zero level = refl
 ticks-of (suc n) level = ap (λ l. level ∷ l) (ticks-of n level)
 
--- any levels, in as many ticks as they last
+-- ---- the statements used on them
+-- a capture of any levels, in as many ticks as they last
 hears-any : (level : ℕ → Bool) (n : ℕ) → level 0 ≡ false → level 1 ≡ false → ((k : ℕ) → k ≤ 2 + n → highsRunning k level < 16)
     → Hears (run (low ∷ [])) level n (polling n (λ i. level (2 + i)))
-unfolding times run low high released sends clash capture after newStation newCore tickOf isRx actOf machine.actOf rxTick heardOf idled idleTick entered sampled highRun storedRx filled finishedRx finished startTx isIdle lengthFits started loadedWith loaded txTick txStep clashOf watchesOf releasesAt stepped armed held driven clashed collisionTick broke pick
 hears-any level n e f lasts = record {
   reached = reached (low ∷ []);
-  starts = record { idle = refl; second = refl };
+  starts = asked .one-yet;
   two-lows = (e, f);
   ticks = polling-samples n (λ i. level (2 + i));
   unanswered = polling-no-answer n (λ i. level (2 + i));
@@ -141,73 +188,31 @@ hears-long : Hears (run (low ∷ [])) long 613 (polling 613 (λ i. long (2 + i))
 unfolding long
 hears-long = hears-any long 613 refl refl (λ k le. let few : k - 600 < 16 = omega arith in rw (long-highs k) few)
 
-long-ends : highsRunning (3 + 613) long ≡ 16
-long-ends = long-highs 616
+long-captured : Captured (run (low ∷ [])) long 616 (tickOf (afterAll (polling 613 (λ i. long (2 + i))) (tickOf (run (low ∷ [])) false)) (long 615))
+long-captured = capture-ends (run (low ∷ [])) long 613 (polling 613 (λ i. long (2 + i))) hears-long (long-highs 616)
 
--- its count
-long-count : tickOf (afterAll (polling 613 (λ i. long (2 + i))) (tickOf (run (low ∷ [])) false)) (long 615) .«last_rx» .«sample_count» ≡ 64
-long-count = capture-ends (run (low ∷ [])) long 613 (polling 613 (λ i. long (2 + i))) hears-long long-ends .count
-
--- one half-bit to be sent
-short : HalfBitBuffer
-short = record { «data» = 0 ∷ 0 ∷ 0 ∷ 0 ∷ 0 ∷ 0 ∷ 0 ∷ []; length = 1 }
-
-record Asked : Type 0 where
-  none-yet : NoLow newStation
-  one-yet : OneLow (run (low ∷ []))
-  frame-taken : startTx newStation released .answer ≡ start.Started
-  answer-taken : startAnswer (run (times 2 low [])) released .answer ≡ start.Started
-  half-bit : Begins (run (times 3 high sends)) true
-  not-last : begun (run (times 4 high sends)) < toSend (run (times 3 high sends))
-  third : IsClash 3 (run (times 5 high sends)) false
-  fourth : IsClash 4 (run (times 6 high sends)) false
-  last : Begins (run (times 3 high (start-tx short ∷ []))) true
-  last-begun : begun (run (times 4 high (start-tx short ∷ []))) ≡ toSend (run (times 3 high (start-tx short ∷ [])))
-  sees : IsSending (run (times 5 high sends)) × IsBreaking (tickOf (run (times 5 high sends)) false)
-  becomes-idle : (IsIdle (run (times 15 high (times 2 low []))) → ⊥) × IsIdle (tickOf (run (times 15 high (times 2 low []))) true)
-
-asked : Asked
-unfolding times run low high released sends clash capture after newStation newCore tickOf isRx actOf machine.actOf rxTick heardOf idled idleTick entered sampled highRun storedRx filled finishedRx finished startTx isIdle lengthFits started loadedWith loaded txTick txStep clashOf watchesOf releasesAt stepped armed held driven clashed collisionTick broke pick hears short startAnswer Watches
-asked = record {
-  none-yet = record { idle = refl; alone = refl };
-  one-yet = record { idle = refl; second = refl };
-  frame-taken = refl;
-  answer-taken = refl;
-  half-bit = record { sending = refl; one-more = refl };
-  not-last = omega arith;
-  third = record { released = refl; watched = λ e. omega (arith, e); third = omega arith; fourth = omega arith; fell = refl };
-  fourth = record { released = refl; watched = λ e. omega (arith, e); third = omega arith; fourth = omega arith; fell = refl };
-  last = record { sending = refl; one-more = refl };
-  last-begun = refl;
-  sees = (refl, refl);
-  becomes-idle = (λ e. false≢true (ap isIdle e), refl);
-}
-
--- the statements used on them: a clash on the third tick, with a poll before it, and a break
-clash-used : IsBreaking (tickOf (afterAll (high ∷ poll ∷ []) (tickOf (run (times 3 high sends)) true)) false)
-unfolding times run low high released sends clash capture after newStation newCore tickOf isRx actOf machine.actOf rxTick heardOf idled idleTick entered sampled highRun storedRx filled finishedRx finished startTx isIdle lengthFits started loadedWith loaded txTick txStep clashOf watchesOf releasesAt stepped armed held driven clashed collisionTick broke pick hears short startAnswer Watches afterAll levelsIn levelIn polled isTx
-clash-used =
-    half-bit-ticks (run (times 3 high sends)) (reached (times 3 high sends)) true (asked .half-bit) (asked .not-last) (high ∷ poll ∷ []) (omega arith) refl false .clash
-    (record { released = refl; watched = λ e. omega (arith, e); third = omega arith; fourth = omega arith; fell = refl })
-
-break-used : Break (times 13 low []) (afterAll (times 13 low []) (tickOf (run (times 5 high sends)) false))
-break-used = breaks (run (times 5 high sends)) (reached (times 5 high sends)) false (asked .sees .0) (asked .sees .1) (times 13 low [])
-
-last-used : Sent (tickOf (afterAll (poll ∷ []) (tickOf (run (times 3 high (start-tx short ∷ []))) true)) false)
-unfolding times run low high released sends clash capture after newStation newCore tickOf isRx actOf machine.actOf rxTick heardOf idled idleTick entered sampled highRun storedRx filled finishedRx finished startTx isIdle lengthFits started loadedWith loaded txTick txStep clashOf watchesOf releasesAt stepped armed held driven clashed collisionTick broke pick hears short startAnswer Watches levelsIn levelIn
-last-used = last-half-bit (run (times 3 high (start-tx short ∷ []))) (reached (times 3 high (start-tx short ∷ []))) true (asked .last) (asked .last-begun) (poll ∷ []) refl false
-
+-- the other statements, each with other calls between the ticks or with levels that try it
 frame-used : Yields (tickOf (afterAll (times 2 high []) (startTx newStation released .station)) false)
-unfolding times run low high released sends clash capture after newStation newCore tickOf isRx actOf machine.actOf rxTick heardOf idled idleTick entered sampled highRun storedRx filled finishedRx finished startTx isIdle lengthFits started loadedWith loaded txTick txStep clashOf watchesOf releasesAt stepped armed held driven clashed collisionTick broke pick hears short startAnswer Watches
+unfolding high
 frame-used = frame-armed newStation new released (asked .frame-taken) (times 2 high []) 2 (ticks-of 2 true) .1 (omega arith)
 
 answer-used : Begins (afterAll (times 3 low []) (startAnswer (run (times 2 low [])) released .station)) false
-unfolding times run low high released sends clash capture after newStation newCore tickOf isRx actOf machine.actOf rxTick heardOf idled idleTick entered sampled highRun storedRx filled finishedRx finished startTx isIdle lengthFits started loadedWith loaded txTick txStep clashOf watchesOf releasesAt stepped armed held driven clashed collisionTick broke pick hears short startAnswer Watches levelsIn levelIn
+unfolding times low levelsIn levelIn
 answer-used = answer-armed (run (times 2 low [])) (reached (times 2 low [])) released (asked .answer-taken) (times 3 low []) .0 .first refl false
 
--- by the number of ticks: the seventh after the start is the fourth of the first half-bit, and low it is a clash
+clash-used : IsBreaking (tickOf (afterAll (high ∷ poll ∷ []) (tickOf (waits released) true)) false)
+unfolding high waits levelsIn levelIn
+clash-used =
+    half-bit-ticks (waits released) (reached _) true (asked .half-bit) (asked .not-last) (high ∷ poll ∷ []) (omega arith) (asked .goes-on) false .clash (asked .third)
+
+last-used : Sent (tickOf (afterAll (poll ∷ []) (tickOf (waits short) true)) false)
+unfolding waits levelsIn levelIn
+last-used = last-half-bit (waits short) (reached _) true (asked .last) (asked .all-begun) (poll ∷ []) refl false
+
 time-used : IsBreaking (tickOf (afterAll (times 6 high []) (startTx newStation released .station)) false)
-unfolding times run low high released sends clash capture after newStation newCore tickOf isRx actOf machine.actOf rxTick heardOf idled idleTick entered sampled highRun storedRx filled finishedRx finished startTx isIdle lengthFits started loadedWith loaded txTick txStep clashOf watchesOf releasesAt stepped armed held driven clashed collisionTick broke pick hears short startAnswer Watches afterAll levelsIn levelIn StaysSending
+unfolding high released times levelsIn levelIn
 time-used =
-    sends-on-time newStation new released _ (a-frame (asked .frame-taken)) (times 6 high []) (refl, (refl, (refl, (refl, (refl, (refl, refl)))))) .clash false (omega arith) (omega arith)
-    (record { released = refl; watched = λ e. omega (arith, e); third = omega arith; fourth = omega arith; fell = refl })
+    sends-on-time newStation new released _ (a-frame (asked .frame-taken)) (times 6 high []) (asked .stays) .clash false (omega arith) (omega arith) (asked .fourth)
+
+break-used : Break (times 13 low []) (afterAll (times 13 low []) (tickOf (run (times 5 high sends)) false))
+break-used = breaks (run (times 5 high sends)) (reached (times 5 high sends)) false (asked .sees .0) (asked .sees .1) (times 13 low [])

@@ -168,7 +168,8 @@ abbrev pub AnswerArmed : Type 0
 AnswerArmed =
     (s : DaliBitbangPhy) → Reached s → (hb : HalfBitBuffer) → startAnswer s hb .answer ≡ start.Started
     → (calls : List Call)
-    → ArmedFor hb (ticksIn calls) (afterAll calls (startAnswer s hb .station)) × (ticksIn calls < 3 → IsSending (tickOf (afterAll calls (startAnswer s hb .station)) low))
+    → ArmedFor hb (ticksIn calls) (afterAll calls (startAnswer s hb .station))
+    × (ticksIn calls < 3 → IsSending (tickOf (afterAll calls (startAnswer s hb .station)) low))
 
 -- Off watches nothing, On all, and Auto every length but 22.
 unfoldable pub Watches : CollisionPolicy → ℕ → Type 0
