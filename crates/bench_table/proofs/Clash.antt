@@ -2,6 +2,7 @@
 use Prim.Native.Nat.{ℕ, zero, suc, _<_}
 use native.Mathlib.Omega.{arith}
 use mathlib.Core.Bool.{true, false, false≢true}
+use mathlib.Core.Logic.{inl}
 use mathlib.Core.Path.{_≡_, refl, sym, _∙_}
 use Rattle.laws.specs.Packed.{packed}
 use Rattle.laws.specs.Pick.{pick}
@@ -12,20 +13,19 @@ use Rattle.halfbits.specs.HalfBits.{pulls, storeOf, bufferOf}
 use Rattle.halfbits.specs.Encoding.{isBitCount, frameOf, encodedOf}
 use Rattle.bench_line.specs.Line.{newLine}
 use Rattle.frames.specs.Sends.{by-start-tx}
-use Rattle.line_theorems.specs.OnLine.{bufferIn}
+use Rattle.line_theorems.specs.OnLine.{bufferIn, Breaks}
 use Rattle.line_theorems.specs.TwoSenders.{Pair, bothOn, pullsIn, FirstDifference}
-use Rattle.line_theorems.specs.Clash.{Breaks}
 use Rattle.line_theorems.proofs.TwoSenders.{clash-ticks}
 use Rattle.line_theorems.proofs.Shown.{new-all-idle, two-reached, is-16, watching}
 use Rattle.bench_table.specs.Table.{zeros, eighty}
 
 pair : Pair (newLine 2) zeros eighty
-unfolding newLine pick
+unfolding newLine
 pair = record {
   one = is-16 (newLine 2) 0 by-start-tx 0 0 (omega arith) (omega arith) (omega arith);
   other = is-16 (newLine 2) 1 by-start-tx 0x80 0 (omega arith) (omega arith) (omega arith);
-  one-watches = watching 2 zeros refl;
-  other-watches = watching 2 eighty refl;
+  one-watches = watching 2 zeros (inl refl);
+  other-watches = watching 2 eighty (inl refl);
   apart = λ e. let none : ⊥ = omega (arith, e) in none;
 }
 

@@ -23,9 +23,8 @@ use Rattle.rx_decode.specs.Reading.{sniffedOf, foundIn, lowRunOf, heldOf}
 use Rattle.bench_line.specs.Line.{newLine}
 use Rattle.reached.specs.Ticks.{heard}
 use Rattle.frames.specs.ReadAs.{IsReady, taken}
-use Rattle.line_theorems.specs.OnLine.{Sender}
+use Rattle.line_theorems.specs.OnLine.{Sender, Breaks}
 use Rattle.line_theorems.specs.TwoSenders.{bothOn}
-use Rattle.line_theorems.specs.Clash.{Breaks}
 
 -- ---- what rows speak of
 -- A new station that has sampled these levels, and as many high ones behind them.

@@ -1,4 +1,4 @@
--- Senders of one frame, one or more of them: every listener holds it, and every sender tells that it was sent. Assumes nothing.
+-- Senders of one frame, one or more of them: every listener holds it, and no sender has a clash to tell. Assumes nothing.
 use Prim.Native.Nat.{ℕ, suc, _+_, _-_, _*_, _<_, _≤_}
 use native.Mathlib.Omega.{arith}
 use native.Mathlib.Decide.{decLt}
@@ -15,9 +15,7 @@ use Rattle.halfbits.specs.Frame.{Frame, bytesOf, frameBits, AreBytes}
 use Rattle.halfbits.specs.Wave.{high, levelAt}
 use Rattle.halfbits.proofs.Levels.{bitOf}
 use Rattle.fsm.specs.declared.DaliBitbangPhy.{DaliBitbangPhy}
-use Rattle.fsm.specs.declared.TxPollResult.the-variants.{Ok}
 use Rattle.fsm.specs.Starting.{hears}
-use Rattle.fsm.specs.Polling.{polled}
 use Rattle.bench_line.specs.declared.BenchLine.{BenchLine}
 use Rattle.bench_line.specs.Line.{stationsOn, stationAt}
 use Rattle.reached.specs.Ticks.{drives, IsIdle, heard, alone}
@@ -26,12 +24,13 @@ use Rattle.frames.specs.ReadAs.{Whole, IsReady, taken, ReadAs}
 use Rattle.frames.proofs.Waving.{lowIn, lowIn-bounds, lastLow, last-falls, after-last, highs-all}
 use Rattle.frames.proofs.Framing.{wave-to-frame}
 use Rattle.line_theorems.specs.Reached.{ReachedLine}
-use Rattle.line_theorems.specs.OnLine.{ticksOn, AllIdle, HoldsFrame, Polls}
+use Rattle.line_theorems.specs.OnLine.{ticksOn, AllIdle}
 use Rattle.line_theorems.specs.LoneSender.{completeAt}
 use Rattle.line_theorems.proofs.Lines.{line-invariants}
-use Rattle.line_theorems.proofs.Hearing.{levels, same-count, on-line, heard-more, heard-same, heard-reached, quiet}
+use Rattle.line_theorems.proofs.Hearing.{levels, ticks-reached, same-count, on-line, heard-more, heard-same, heard-reached, quiet}
 use Rattle.line_theorems.proofs.AsOne.{Drives, heard-as-one, hears-itself}
-use Rattle.line_theorems.proofs.Starting.{tells-frame, tells-poll}
+use Rattle.line_theorems.proofs.Asking.{On}
+use Rattle.line_theorems.proofs.Telling.{Clashes, nothing-to-tell, Event}
 
 -- ---- what a lone sender's levels are: three armed ticks, and the wave from tick 4 on
 abbrev pub sentLevel : List Bool → ℕ → Bool
@@ -95,9 +94,12 @@ module _ (l : BenchLine) (reached : ReachedLine l) (frame : Frame) (are : AreByt
         on-line l reached n h ticks
         ∙ hears-itself l reached (sentLevel bits) ticks driven one on (drives-wave bits ticks sends) ticks (omega arith) (stationAt l n) (drives-wave bits ticks s)
 
-    pub sender-sent : (n : ℕ) → n < stationsOn l → Sends bits (stationAt l n) → idleAt (length bits) ≤ ticks → Polls Ok n (ticksOn ticks l)
-    sender-sent n h s late =
-        tells-poll (ticksOn ticks l) n (omega (arith, h, same-count ticks l)) Ok (ap (λ (s : DaliBitbangPhy). polled s .answer) (sender-alone n h s) ∙ s .sent ticks late)
+    pub sender-sent : (n : ℕ) → n < stationsOn l → Sends bits (stationAt l n) → idleAt (length bits) ≤ ticks → On n (Clashes 0) (ticksOn ticks l)
+    sender-sent n h s late = record {
+      reached = ticks-reached ticks l reached;
+      on = omega (arith, h, same-count ticks l);
+      is = subst (λ (s : DaliBitbangPhy). Clashes 0 s) (sym (sender-alone n h s)) (nothing-to-tell (alone ticks (stationAt l n)) (s .idle ticks late) (s .sent ticks late));
+    }
 
   -- four high ticks, and then the wave
   module _ (t n : ℕ) (h : n < stationsOn l) (idle : IsIdle (stationAt l n)) (complete : completeAt bits ≤ 4 + t) where
@@ -117,10 +119,12 @@ module _ (l : BenchLine) (reached : ReachedLine l) (frame : Frame) (are : AreByt
     listener-rests : IsIdle (stationAt (ticksOn (4 + t) l) n)
     listener-rests = subst (λ (s : DaliBitbangPhy). IsIdle s) (sym hears-wave) (read .0)
 
-    pub listener-holds : HoldsFrame frame n (ticksOn (4 + t) l)
-    listener-holds =
-        tells-frame (ticksOn (4 + t) l) n (omega (arith, h, same-count (4 + t) l)) frame
-        (subst (λ (s : DaliBitbangPhy). IsReady s) (sym hears-wave) (read .1)) (subst (λ (s : DaliBitbangPhy). ReadAs frame (taken s)) (sym hears-wave) (read .2))
+    pub listener-holds : On n (Event frame) (ticksOn (4 + t) l)
+    listener-holds = record {
+      reached = ticks-reached (4 + t) l reached;
+      on = omega (arith, h, same-count (4 + t) l);
+      is = subst (λ (s : DaliBitbangPhy). Event frame s) (sym hears-wave) (record { ready = read .1; read = read .2 });
+    }
 
   -- In the end all are Idle again.
   pub all-rest : (t : ℕ) → completeAt bits ≤ 4 + t → idleAt (length bits) ≤ 4 + t → AllIdle (ticksOn (4 + t) l)

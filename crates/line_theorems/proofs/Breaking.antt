@@ -29,7 +29,7 @@ use Rattle.fsm.specs.Ticking.{isRx, actOf, tickOf}
 use Rattle.reached.specs.Ticks.{drives, IsIdle, IsSending, heard}
 use Rattle.frames.specs.Sends.{FitsBuffer}
 use Rattle.frames.proofs.SendingTicks.{Sender, ruleOf, clashes, by-rule, hold, drive}
-use Rattle.line_theorems.specs.Clash.{IsBreaking}
+use Rattle.line_theorems.specs.OnLine.{IsBreaking}
 use Rattle.line_theorems.proofs.Hearing.{heard-more, Listens}
 
 -- ---- a station in its break, so many ticks after it saw the clash

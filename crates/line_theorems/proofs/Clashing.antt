@@ -23,9 +23,9 @@ use Rattle.frames.specs.Sends.{FitsBuffer}
 use Rattle.frames.proofs.SendingTicks.{Sender}
 use Rattle.frames.proofs.Sending.{waving, sends}
 use Rattle.line_theorems.specs.Reached.{ReachedLine}
-use Rattle.line_theorems.specs.OnLine.{ticksOn}
-use Rattle.line_theorems.specs.Clash.{IsBreaking, drivenAt, Breaks}
-use Rattle.line_theorems.proofs.Hearing.{levels, on-line, heard-more, Listens, listens-on}
+use Rattle.line_theorems.specs.OnLine.{ticksOn, IsBreaking, Breaks}
+use Rattle.line_theorems.specs.Clash.{drivenAt}
+use Rattle.line_theorems.proofs.Hearing.{levels, on-line, heard-more, Listens, listens-on, Settles, settles-on}
 use Rattle.line_theorems.proofs.AsOne.{high-at, low-at, listening, still-listening, Drives, hears-itself}
 use Rattle.line_theorems.proofs.Breaking.{breakLevel, Begun, Broken, pulls-four, pulls-over, breaks, ends}
 use Rattle.line_theorems.proofs.Agreeing.{sentLevel, armed-level, wave-level, drives-wave}
@@ -194,20 +194,68 @@ module _ (l : BenchLine) (reached : ReachedLine l) {lo wi : ℕ} {loser winner :
             (listening l reached (clash + 13) lo (L .on) (listens-after l reached (L .on) loser-broken loser-finds (clash + 13) (omega arith) .hearing))
         go n on (no d) (no c) = listening l reached (clash + 13) n on (still-listening l reached (clash + 13) n (ap hears (others n on c d)))
 
+    -- nor later
+    nobody-pulls : (t : ℕ) → clash + 13 ≤ t → levels l t ≡ high
+    unfolding hears
+    nobody-pulls t late = go (decLt (clash + 13) t)
+      where
+        driven : clash + 14 ≤ t → (n : ℕ) → n < stationsOn l → Dec (n ≡ wi) → Dec (n ≡ lo) → hears (heard t (levels l) (stationAt l n) .core .bus .«bus_state») ≡ true
+        driven later n on (yes e) either =
+            subst (λ m. hears (heard t (levels l) (stationAt l m) .core .bus .«bus_state») ≡ true) (sym e) (listens-after l reached (W .on) broken winner-finds t later .hearing)
+        driven later n on (no d) (yes e) =
+            subst (λ m. hears (heard t (levels l) (stationAt l m) .core .bus .«bus_state») ≡ true) (sym e)
+            (listens-after l reached (L .on) loser-broken loser-finds t (omega arith) .hearing)
+        driven later n on (no d) (no c) = still-listening l reached t n (ap hears (others n on c d))
+
+        go : Dec (clash + 13 < t) → levels l t ≡ high
+        go (yes later) = high-at l reached t (λ n on. listening l reached t n on (driven (omega (arith, later)) n on (ℕ-discrete n wi) (ℕ-discrete n lo)))
+        go (no now) = let e : clash + 13 ≡ t = omega (arith, now) in subst (λ i. levels l i ≡ high) e winner-finds
+
+    -- So sixteen ticks later all are Idle.
+    settles : (t : ℕ) → clash + 14 ≤ t → (n : ℕ) → n < stationsOn l → Settles (clash + 29 - t) (heard t (levels l) (stationAt l n))
+    unfolding hears
+    settles t late n on = go (ℕ-discrete n wi) (ℕ-discrete n lo)
+      where
+        from : (m since left : ℕ) → t ≡ since + m → clash + 13 ≤ since → left - m ≡ clash + 29 - t → (number : ℕ)
+            → Settles left (heard since (levels l) (stationAt l number)) → Settles (clash + 29 - t) (heard t (levels l) (stationAt l number))
+        from m since left e after same number s =
+            subst (λ i. Settles i (heard t (levels l) (stationAt l number))) same
+            (subst (λ i. Settles (left - m) (heard i (levels l) (stationAt l number))) (sym e)
+            (subst (λ (x : DaliBitbangPhy). Settles (left - m) x) (sym (heard-more since m (levels l) (stationAt l number)))
+            (settles-on m left (λ i. levels l (since + i)) _ s (λ i h. nobody-pulls (since + i) (omega (arith, after))))))
+
+        hearing-from : (number : ℕ) → hears (heard (clash + 13) (levels l) (stationAt l number) .core .bus .«bus_state») ≡ true
+            → Settles (clash + 29 - t) (heard t (levels l) (stationAt l number))
+        hearing-from number h = from (t - (clash + 13)) (clash + 13) 16 (omega (arith, late)) (omega arith) (omega (arith, late)) number (inr (h, omega arith))
+
+        go : Dec (n ≡ wi) → Dec (n ≡ lo) → Settles (clash + 29 - t) (heard t (levels l) (stationAt l n))
+        go (yes e) either =
+            subst (λ m. Settles (clash + 29 - t) (heard t (levels l) (stationAt l m))) (sym e)
+            (from (t - (clash + 14)) (clash + 14) 15 (omega (arith, late)) (omega arith) (omega (arith, late)) wi
+            (inl (ends (levels l) (stationAt l wi) winner-finds broken .0)))
+        go (no d) (yes e) =
+            subst (λ m. Settles (clash + 29 - t) (heard t (levels l) (stationAt l m))) (sym e)
+            (hearing-from lo (listens-after l reached (L .on) loser-broken loser-finds (clash + 13) (omega arith) .hearing))
+        go (no d) (no c) = hearing-from n (still-listening l reached (clash + 13) n (ap hears (others n on c d)))
+
   -- ---- all of it
   -- the ticks, and what each tells after its break
   pub record Over (clash : ℕ) : Type 0 where
     pub loser-breaks : Breaks l lo (at 2) low
     pub winner-breaks : Breaks l wi clash high
-    pub loser-listens : (t : ℕ) → at 24 ≤ t → Listens 1 low false (heard t (levels l) (stationAt l lo))
-    pub winner-listens : (t : ℕ) → at 24 ≤ t → Listens 1 high false (heard t (levels l) (stationAt l wi))
+    pub loser-first : at 2 ≤ clash
+    pub loser-listens : (t : ℕ) → clash + 14 ≤ t → Listens 1 low false (heard t (levels l) (stationAt l lo))
+    pub winner-listens : (t : ℕ) → clash + 14 ≤ t → Listens 1 high false (heard t (levels l) (stationAt l wi))
+    pub all-settle : (t : ℕ) → clash + 14 ≤ t → (n : ℕ) → n < stationsOn l → Settles (clash + 29 - t) (heard t (levels l) (stationAt l n))
 
   over : (e clash : ℕ) → 4 ≤ e → e ≤ 8 → clash ≡ at 2 + e → Broken (levels l) (stationAt l wi) clash → Over clash
   over e clash from to is broken = record {
     loser-breaks = as-breaks l reached (L .on) loser-broken (loser-finds e from to clash is broken);
     winner-breaks = as-breaks l reached (W .on) broken (winner-finds e from to clash is broken);
+    loser-first = omega arith;
     loser-listens = λ t late. listens-after l reached (L .on) loser-broken (loser-finds e from to clash is broken) t (omega arith);
     winner-listens = λ t late. listens-after l reached (W .on) broken (winner-finds e from to clash is broken) t (omega arith);
+    all-settle = settles e from to clash is broken;
   }
 
   pub clashes : Over (pick (pulls winner (suc j)) (at 10) (at 6))

@@ -11,6 +11,8 @@ use lib.Dec.{eqb}
 use lib.ListN.{length, getD, List·getD-eq-default}
 use Rattle.laws.specs.Bit.{bit}
 use Rattle.laws.specs.Packed.{packed}
+use Rattle.laws.specs.Pick.{pick}
+use Rattle.laws.proofs.Picked.{cases}
 use Rattle.laws.proofs.Tabulated.{length-tabulate}
 use Rattle.halfbits.specs.HalfBits.{pulls, storeOf, bufferOf}
 use Rattle.halfbits.proofs.Levels.{bitOf, half-bits-are-the-wave}
@@ -20,6 +22,7 @@ use Rattle.frames.specs.Sends.{FitsBuffer}
 use Rattle.frames.specs.OneFrame.{OneWave}
 use Rattle.frames.proofs.SendingTicks.{read-back}
 use Rattle.line_theorems.specs.TwoSenders.{pullsIn}
+use Rattle.line_theorems.specs.Clash.{drivenAt}
 
 -- ---- the half-bits that the encoder wrote are those of the wave
 one-or-zero : (digit : ℕ) → digit < 2 → eqb digit 1 ≡ not (eqb digit 0)
@@ -101,24 +104,30 @@ within bits j e = go (decLt j (2 * length bits + 2))
     go (yes h) = h
     go (no past) = absurd (false≢true (sym (pulls-later bits j (omega (arith, past))) ∙ e))
 
--- Never three running pull. If the first of them is a bit's first half, the bit is a 1, and the second isn't pulled.
-pub never-three : (bits : List Bool) (j : ℕ) → pulls bits j ≡ true → pulls bits (suc j) ≡ true → pulls bits (suc (suc j)) ≡ false
-never-three bits j this next = go (decLt (j % 2) 1)
-  where
-    released : (k : ℕ) → pulls bits (2 * k) ≡ true → pulls bits (2 * k + 1) ≡ false
-    released k first =
-        let inside = within bits (2 * k) first in
-        pulls-second bits k (omega arith) ∙ ap not (sym (pulls-first bits k (omega arith)) ∙ first)
+-- a bit that pulls its first half releases its second
+one-half : (bits : List Bool) (k : ℕ) → pulls bits (2 * k) ≡ true → pulls bits (2 * k + 1) ≡ false
+one-half bits k first =
+    let inside = within bits (2 * k) first in
+    pulls-second bits k (omega arith) ∙ ap not (sym (pulls-first bits k (omega arith)) ∙ first)
 
-    go : Dec (j % 2 < 1) → pulls bits (suc (suc j)) ≡ false
+-- So where two running pull, the second is a first half.
+odd-if-next : (bits : List Bool) (j : ℕ) → pulls bits j ≡ true → pulls bits (suc j) ≡ true → j % 2 ≡ 1
+odd-if-next bits j this next = go (decLt (j % 2) 1)
+  where
+    go : Dec (j % 2 < 1) → j % 2 ≡ 1
     go (yes even) =
         let this-is : j ≡ 2 * (j / 2) = omega arith in
         let next-is : 2 * (j / 2) + 1 ≡ suc j = omega arith in
-        absurd (false≢true (sym (released (j / 2) (ap (pulls bits) (sym this-is) ∙ this)) ∙ ap (pulls bits) next-is ∙ next))
-    go (no odd) =
-        let next-is : 2 * suc (j / 2) ≡ suc j = omega (arith, odd) in
-        let then-is : suc (suc j) ≡ 2 * suc (j / 2) + 1 = omega (arith, odd) in
-        ap (pulls bits) then-is ∙ released (suc (j / 2)) (ap (pulls bits) next-is ∙ next)
+        absurd (false≢true (sym (one-half bits (j / 2) (ap (pulls bits) (sym this-is) ∙ this)) ∙ ap (pulls bits) next-is ∙ next))
+    go (no odd) = omega (arith, odd)
+
+-- And never three running pull.
+pub never-three : (bits : List Bool) (j : ℕ) → pulls bits j ≡ true → pulls bits (suc j) ≡ true → pulls bits (suc (suc j)) ≡ false
+never-three bits j this next =
+    let odd = odd-if-next bits j this next in
+    let next-is : 2 * suc (j / 2) ≡ suc j = omega arith in
+    let then-is : suc (suc j) ≡ 2 * suc (j / 2) + 1 = omega arith in
+    ap (pulls bits) then-is ∙ one-half bits (suc (j / 2)) (ap (pulls bits) next-is ∙ next)
 
 -- one releases there, and the other pulls
 module _ (loser winner : List Bool) (j : ℕ) (same : (i : ℕ) → i < j → pulls loser i ≡ pulls winner i)
@@ -152,3 +161,31 @@ module _ (loser winner : List Bool) (j : ℕ) (same : (i : ℕ) → i < j → pu
           let first : pulls winner (2 * k) ≡ false = sym (same (2 * k) (omega (arith, past))) ∙ pulls-later loser (2 * k) (omega arith) in
           let second : pulls winner (2 * k + 1) ≡ false = sym (same (2 * k + 1) (omega (arith, past))) ∙ pulls-later loser (2 * k + 1) (omega arith) in
           absurd (not-self (bitOf winner k) (sym (pulls-first winner k inside) ∙ first) (sym (pulls-second winner k inside) ∙ second))
+
+  -- A second half is the first to differ only where the loser's frame is over.
+  odd-is-past : j % 2 ≡ 1 → j ≡ 2 * length loser + 3
+  odd-is-past odd = go (decLt (length loser) (j / 2))
+    where
+      go : Dec (length loser < j / 2) → j ≡ 2 * length loser + 3
+      go (yes past) = omega (arith, past, near-loser, odd)
+      go (no inside) =
+          let k : ℕ = j / 2 in
+          let second : j ≡ 2 * k + 1 = omega arith in
+          let one : bitOf loser k ≡ bitOf winner k
+          = sym (pulls-first loser k (omega (arith, inside))) ∙ same (2 * k) (omega (arith, odd)) ∙ pulls-first winner k (omega (arith, in-winner)) in
+          absurd (false≢true (sym released ∙ ap (pulls loser) second ∙ pulls-second loser k (omega (arith, inside)) ∙ ap not one
+          ∙ sym (pulls-second winner k (omega (arith, in-winner))) ∙ ap (pulls winner) (sym second) ∙ pulled))
+
+  -- Frames of 16 and 24 bits: the winner has sampled by tick 216. It is a 24 bit frame's last bit that takes so long.
+  pub by-216 : (length loser ≡ 16) ⊎ (length loser ≡ 24) → length winner ≤ 24 → pick (pulls winner (suc j)) (drivenAt j + 10) (drivenAt j + 6) + 14 ≤ 216
+  by-216 lengths few =
+      cases (λ clash. clash + 14 ≤ 216) (pulls winner (suc j)) (λ next. two-running (odd-is-past (odd-if-next winner j pulled next)) lengths)
+      (λ _. go (decLt (j % 2) 1))
+    where
+      two-running : j ≡ 2 * length loser + 3 → (length loser ≡ 16) ⊎ (length loser ≡ 24) → drivenAt j + 10 + 14 ≤ 216
+      two-running e (inl short) = omega arith
+      two-running e (inr long) = omega (arith, in-winner)
+
+      go : Dec (j % 2 < 1) → drivenAt j + 6 + 14 ≤ 216
+      go (yes even) = omega (arith, in-winner)
+      go (no odd) = let later = two-running (odd-is-past (omega (arith, odd))) lengths in omega (arith, later)

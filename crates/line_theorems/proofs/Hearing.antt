@@ -1,10 +1,11 @@
 -- What the stations of a line hear, tick after tick, and what one that does not send keeps meanwhile. Assumes nothing.
-use Prim.Native.Nat.{ℕ, zero, suc, _+_, _<_, min}
+use Prim.Native.Nat.{ℕ, zero, suc, _+_, _-_, _≤_, _<_, min}
 use native.Mathlib.Nat.{add-zero, add-suc}
 use native.Mathlib.Omega.{arith}
 use mathlib.Core.Bool.{Bool, true, false, false≢true}
 use mathlib.Core.List.{List}
-use mathlib.Core.Path.{_≡_, refl, ap, _∙_}
+use mathlib.Core.Logic.{_⊎_, inl, inr}
+use mathlib.Core.Path.{_≡_, refl, ap, _∙_, subst}
 use lib.Dec.{ltb}
 use lib.ListN.{length, getD}
 use Rattle.laws.specs.Pick.{pick}
@@ -13,6 +14,7 @@ use Rattle.machine.specs.declared.BusState.{BusState}
 use Rattle.machine.specs.declared.BusState.the-variants as bus
 use Rattle.machine.specs.declared.RxState.{RxState}
 use Rattle.machine.specs.declared.RxState.the-variants.{Receiving, Completed}
+use Rattle.machine.specs.declared.Runs.{Runs}
 use Rattle.machine.specs.declared.Told.{Told}
 use Rattle.machine.specs.declared.Core.{Core}
 use Rattle.machine.specs.Groups.{received}
@@ -105,44 +107,48 @@ pub record Listens (collision : ℕ) (found yielded : Bool) (s : DaliBitbangPhy)
   pub marked : s .core .told .«tx_idle_after_break» ≡ found
   pub yields : s .core .told .«tx_yielded» ≡ yielded
 
--- Such a core goes on hearing, and of what it tells only the mark of a capture may be another.
-record Keeps (c d : Core) : Type 0 where
-  hearing : hears (d .bus .«bus_state») ≡ true
-  mark : RxState
-  told : d .told ≡ received c mark
+-- Such a core goes on hearing, and of what it tells only the mark of a capture may be another. Its runs are what the level makes them.
+pub record Keeps (c : Core) (level : Bool) (d : Core) : Type 0 where
+  pub hearing : hears (d .bus .«bus_state») ≡ true
+  pub mark : RxState
+  pub told : d .told ≡ received c mark
+  pub runs : d .runs ≡ heardOf c level .runs
 
 module _ (c : Core) (level : Bool) (h : hears (c .bus .«bus_state») ≡ true) where
-  idle-keeps : Keeps c (idleTick (heardOf c level) level)
+  idle-keeps : Keeps c level (idleTick (heardOf c level) level)
   unfolding idleTick entered heardOf hears
   idle-keeps =
-      cases (Keeps c) level (λ _. record { hearing = h; mark = _; told = refl })
-      (λ _. cases (Keeps c) (ltb (min (c .bus .«rx_debounce» + 1) 255) 2)
-      (λ _. record { hearing = h; mark = _; told = refl })
-      (λ _. record { hearing = refl; mark = Receiving; told = refl }))
+      cases (Keeps c level) level (λ _. record { hearing = h; mark = _; told = refl; runs = refl })
+      (λ _. cases (Keeps c level) (ltb (min (c .bus .«rx_debounce» + 1) 255) 2)
+      (λ _. record { hearing = h; mark = _; told = refl; runs = refl })
+      (λ _. record { hearing = refl; mark = Receiving; told = refl; runs = refl }))
 
-  rx-keeps : Keeps c (rxTick (heardOf c level) level)
+  rx-keeps : Keeps c level (rxTick (heardOf c level) level)
   unfolding rxTick finished idled heardOf hears
   rx-keeps =
-      cases (Keeps c) (goesOn (sampled (c .rx) level)) (λ _. record { hearing = h; mark = _; told = refl })
-      (λ _. record { hearing = refl; mark = Completed; told = refl })
+      cases (Keeps c level) (goesOn (sampled (c .rx) level)) (λ _. record { hearing = h; mark = _; told = refl; runs = refl })
+      (λ _. record { hearing = refl; mark = Completed; told = refl; runs = refl })
 
 stored-core : (s : DaliBitbangPhy) (c : Core) (level : Bool) → storedRx s c level .core ≡ rxTick c level
 unfolding storedRx finishedRx
 stored-core s c level = cases (λ (s′ : DaliBitbangPhy). s′ .core ≡ rxTick c level) (goesOn (sampled (c .rx) level)) (λ _. refl) (λ _. refl)
 
 module _ (s : DaliBitbangPhy) (level : Bool) (h : hears (s .core .bus .«bus_state») ≡ true) where
-  act-keeps : (state : BusState) → hears state ≡ true → Keeps (s .core) (actOf state s (heardOf (s .core) level) level .core)
+  act-keeps : (state : BusState) → hears state ≡ true → Keeps (s .core) level (actOf state s (heardOf (s .core) level) level .core)
   unfolding actOf isRx machine.actOf hears pick
   act-keeps bus.Idle e = idle-keeps (s .core) level h
   act-keeps bus.Rx e = rw (stored-core s (heardOf (s .core) level) level) (rx-keeps (s .core) level h)
   act-keeps bus.Tx e = absurd (false≢true e)
   act-keeps bus.CollisionTx e = absurd (false≢true e)
 
+  pub tick-keeps : Keeps (s .core) level (tickOf s level .core)
+  unfolding tickOf
+  tick-keeps = act-keeps (s .core .bus .«bus_state») h
+
 module _ {collision : ℕ} {found yielded : Bool} where
   pub listens-next : (s : DaliBitbangPhy) (level : Bool) → Listens collision found yielded s → Listens collision found yielded (tickOf s level)
-  unfolding tickOf
   listens-next s level h =
-      let k = act-keeps s level (h .hearing) (s .core .bus .«bus_state») (h .hearing) in
+      let k = tick-keeps s level (h .hearing) in
       record {
         hearing = k .hearing;
         collisions = ap (λ (told : Told). told .«tx_collision») (k .told) ∙ h .collisions;
@@ -159,7 +165,7 @@ pub listener-drives : (s : DaliBitbangPhy) → Reached s → hears (s .core .bus
 listener-drives s r = invariants s r .released
 
 -- one that is Idle stays so while the line is high
-quiet-next : (s : DaliBitbangPhy) → IsIdle s → IsIdle (tickOf s true)
+pub quiet-next : (s : DaliBitbangPhy) → IsIdle s → IsIdle (tickOf s true)
 unfolding tickOf actOf isRx machine.actOf idleTick heardOf pick
 quiet-next s idle = rw idle refl
 
@@ -167,3 +173,48 @@ pub quiet : (n : ℕ) (level : ℕ → Bool) (s : DaliBitbangPhy) → IsIdle s �
 unfolding heard
 quiet zero level s idle high = idle
 quiet (suc n) level s idle high = rw (high n (omega arith)) (quiet-next (heard n level s) (quiet n level s idle (λ t below. high t (omega arith))))
+
+-- ---- one that hears, and will soon be Idle
+-- Idle already, or after so many high ticks more: sixteen running end an Rx
+abbrev pub Settles : ℕ → DaliBitbangPhy → Type 0
+Settles left s = IsIdle s ⊎ ((hears (s .core .bus .«bus_state») ≡ true) × (16 ≤ s .core .runs .«high_run_ticks» + left))
+
+pub settles-next : (left : ℕ) (s : DaliBitbangPhy) → Settles left s → Settles (left - 1) (tickOf s true)
+unfolding heardOf pick
+settles-next left s (inl idle) = inl (quiet-next s idle)
+settles-next left s (inr (hearing, many)) =
+    let k = tick-keeps s true hearing in
+    let longer : tickOf s true .core .runs .«high_run_ticks» ≡ min (s .core .runs .«high_run_ticks» + 1) 65535 = ap (λ (r : Runs). r .«high_run_ticks») (k .runs) in
+    inr (k .hearing, more (s .core .runs .«high_run_ticks») (tickOf s true .core .runs .«high_run_ticks») left longer many)
+  where
+    more : (run next left : ℕ) → next ≡ min (run + 1) 65535 → 16 ≤ run + left → 16 ≤ next + (left - 1)
+    more run next left e h = omega arith
+
+pub settles-on : (n left : ℕ) (level : ℕ → Bool) (s : DaliBitbangPhy) → Settles left s → ((t : ℕ) → t < n → level t ≡ true) → Settles (left - n) (heard n level s)
+unfolding heard
+settles-on zero left level s h high = let e : left ≡ left - 0 = omega arith in subst (λ m. Settles m s) e h
+settles-on (suc n) left level s h high =
+    let e : left - n - 1 ≡ left - suc n = omega arith in
+    rw (high n (omega arith))
+    (subst (λ m. Settles m (tickOf (heard n level s) true)) e (settles-next (left - n) (heard n level s) (settles-on n left level s h (λ t below. high t (omega arith)))))
+
+pub settles-later : (sooner later : ℕ) → sooner ≤ later → (s : DaliBitbangPhy) → Settles sooner s → Settles later s
+settles-later sooner later h s (inl idle) = inl idle
+settles-later sooner later h s (inr (hearing, many)) = inr (hearing, omega (arith, h, many))
+
+pub settles-hears : (left : ℕ) (s : DaliBitbangPhy) → Settles left s → hears (s .core .bus .«bus_state») ≡ true
+unfolding hears
+settles-hears left s (inl idle) = ap hears idle
+settles-hears left s (inr (hearing, many)) = hearing
+
+-- In Rx fewer than sixteen highs run.
+pub settled-idle : (s : DaliBitbangPhy) → Reached s → Settles 0 s → IsIdle s
+unfolding hears
+settled-idle s r (inl idle) = idle
+settled-idle s r (inr (hearing, many)) = go (s .core .bus .«bus_state») refl hearing
+  where
+    go : (state : BusState) → s .core .bus .«bus_state» ≡ state → hears state ≡ true → state ≡ bus.Idle
+    go bus.Idle e h = refl
+    go bus.Rx e h = absurd (let none : ⊥ = omega (arith, invariants s r .short e, many) in none)
+    go bus.Tx e h = absurd (false≢true h)
+    go bus.CollisionTx e h = absurd (false≢true h)

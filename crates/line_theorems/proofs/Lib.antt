@@ -1,11 +1,14 @@
 pub mod Lines
 pub mod Hearing
+pub mod Asking
 pub mod AsOne
 pub mod Breaking
 pub mod Differing
 pub mod Starting
+pub mod Telling
 pub mod Agreeing
 pub mod LoneSender
 pub mod Clashing
 pub mod TwoSenders
+pub mod Retry
 pub mod Shown

@@ -1,11 +1,11 @@
 -- Lines and senders that the theorems speak of: a new line, and one on which a frame was sent before and policies were set. Assumes nothing.
-use Prim.Native.Nat.{ℕ, zero, suc, _<_, _≤_, min}
+use Prim.Native.Nat.{ℕ, zero, suc, _+_, _<_, _≤_, min}
 use native.Mathlib.Omega.{arith}
 use native.Mathlib.Decide.{ℕ-discrete}
-use mathlib.Core.Bool.{true, false≢true}
+use mathlib.Core.List.{List, [], _∷_}
+use mathlib.Core.Logic.{_⊎_, inl, inr, ⊎-elim}
 use mathlib.Core.Path.{_≡_, refl, sym, _∙_, ap, subst}
-use lib.Dec.{eqb}
-use lib.ListN.{length}
+use lib.ListN.{length, getD}
 use lib.Seq.{getD-set-same, getD-set-other}
 use borrow.Author.Tests.{lt-ltb}
 use Rattle.laws.specs.Pick.{pick}
@@ -14,9 +14,9 @@ use Rattle.halfbits.specs.Frame.{Frame, bytesOf, AreBytes, frameBits}
 use Rattle.halfbits.specs.Encoding.{isBitCount, frameOf}
 use Rattle.machine.specs.declared.CollisionPolicy.{CollisionPolicy}
 use Rattle.machine.specs.declared.CollisionPolicy.the-variants.{Auto, Off, On}
-use Rattle.machine.specs.Sending.{watchesOf}
 use Rattle.fsm.specs.declared.DaliBitbangPhy.{DaliBitbangPhy}
 use Rattle.fsm.specs.declared.StartAnswer.the-variants.{Started}
+use Rattle.fsm.specs.declared.TxPollResult.the-variants.{Collision}
 use Rattle.fsm.specs.Station.{newCore, newStation}
 use Rattle.fsm.specs.Calls.{withPolicy}
 use Rattle.bench_line.specs.declared.BenchLine.{BenchLine}
@@ -27,26 +27,24 @@ use Rattle.bench_line.specs.Refusals.{isCount}
 use Rattle.bench_line.specs.Calls.{changedAt}
 use Rattle.reached.specs.Ticks.{IsIdle}
 use Rattle.frames.specs.Sends.{Start, by-start-answer}
-use Rattle.line_theorems.specs.Reached.{lineAfter, policy, ReachedLine, new-line, called}
-use Rattle.line_theorems.specs.OnLine.{frameIn, HoldsFrame, ticksOn, AllIdle, Sender, bufferIn, IsSender, startedOn}
+use Rattle.line_theorems.specs.Reached.{LineCall, tick, poll, take-idle, take-rx, acknowledge, policy, lineAfter, ReachedLine, new-line, called}
+use Rattle.line_theorems.specs.Reached.{lineAfterAll, Each, startsNothing, StartNothing, Without, isTick, ticksIn}
+use Rattle.line_theorems.specs.OnLine.{frameIn, HoldsFrame, Polls, ticksOn, AllIdle, Sender, bufferIn, IsSender, startedOn, Breaks}
 use Rattle.line_theorems.specs.LoneSender.{Alone, completeAt}
-use Rattle.line_theorems.specs.TwoSenders.{Watches, Pair, bothOn, Agreed, pullsIn, Clashed}
-use Rattle.line_theorems.specs.Clash.{clashAt, Breaks}
+use Rattle.line_theorems.specs.TwoSenders.{Watches, Pair, bothOn, Agreed, pullsIn, FirstDifference, Clashed}
+use Rattle.line_theorems.specs.Clash.{clashAt}
+use Rattle.line_theorems.specs.Retry.{again, Retries}
 use Rattle.line_theorems.proofs.Lines.{line-invariants}
 use Rattle.line_theorems.proofs.Hearing.{ticks-reached, same-count}
 use Rattle.line_theorems.proofs.Starting.{same-stations, reached-on}
-use Rattle.line_theorems.proofs.LoneSender.{lone-sender, lone-sender-from}
-use Rattle.line_theorems.proofs.TwoSenders.{both-started, equal-frames, different-frames, clash-ticks}
+use Rattle.line_theorems.proofs.LoneSender.{lone-sender, lone-sender-from, lone-sender-in-any-order}
+use Rattle.line_theorems.proofs.TwoSenders.{both-started, equal-frames, equal-frames-in-any-order, first-difference, different-frames, different-frames-in-any-order, clash-ticks}
+use Rattle.line_theorems.proofs.Retry.{retry}
+
+differ : _≡_ {A = ℕ} 0 1 → ⊥
+differ e = omega (arith, e)
 
 -- ---- a new line
-auto-not-off : Auto ≡ Off → ⊥
-unfolding watchesOf
-auto-not-off e = false≢true (sym (ap (λ p. watchesOf p 0) e))
-
-on-not-off : On ≡ Off → ⊥
-unfolding watchesOf
-on-not-off e = false≢true (sym (ap (λ p. watchesOf p 0) e))
-
 new-station-at : (count n : ℕ) → stationAt (newLine count) n ≡ newStation
 unfolding newLine
 new-station-at count zero = refl
@@ -115,12 +113,9 @@ unfolding newLine
 new-line-hears x y z h k m by = lone-sender (newLine 4) four-reached (new-all-idle 4) (sends-24 2 by x y z) (is-24 (newLine 4) 2 by x y z (omega arith) h k m)
 
 -- ---- two senders on a new line
-pub watching : (count : ℕ) (a : Sender) → pick (eqb (a .bits) 16) true (eqb (a .bits) 24) ≡ true → Watches (newLine count) a
+pub watching : (count : ℕ) (a : Sender) → (a .bits ≡ 16) ⊎ (a .bits ≡ 24) → Watches (newLine count) a
 unfolding newStation newCore
-watching count a long = record {
-  long = long;
-  not-off = λ off. auto-not-off (sym (ap (λ (s : DaliBitbangPhy). s .core .«collision_policy») (new-station-at count (a .number))) ∙ off);
-}
+watching count a long = record { long = long; policy = inl (ap (λ (s : DaliBitbangPhy). s .core .«collision_policy») (new-station-at count (a .number))) }
 
 -- as many bytes as a frame has
 bytes-in : Frame → ℕ
@@ -129,12 +124,12 @@ bytes-in frame = length (bytesOf frame)
 -- Any bytes on a line of four, in the hands of stations 3 and 1: frames that are equal, and 16 bits that are the beginning of 24.
 module _ (x y z : ℕ) (h : x < 256) (k : y < 256) (m : z < 256) (by other-by : Start) where
   equal-pair : Pair (newLine 4) (sends-16 3 by x y) (sends-16 1 other-by x y)
-  unfolding newLine pick
+  unfolding newLine
   equal-pair = record {
     one = is-16 (newLine 4) 3 by x y (omega arith) h k;
     other = is-16 (newLine 4) 1 other-by x y (omega arith) h k;
-    one-watches = watching 4 (sends-16 3 by x y) refl;
-    other-watches = watching 4 (sends-16 1 other-by x y) refl;
+    one-watches = watching 4 (sends-16 3 by x y) (inl refl);
+    other-watches = watching 4 (sends-16 1 other-by x y) (inl refl);
     apart = λ e. let none : ⊥ = omega (arith, e) in none;
   }
 
@@ -142,20 +137,53 @@ module _ (x y z : ℕ) (h : x < 256) (k : y < 256) (m : z < 256) (by other-by : 
   equal-agree = equal-frames (newLine 4) four-reached (new-all-idle 4) (sends-16 3 by x y) (sends-16 1 other-by x y) equal-pair refl
 
   longer-pair : Pair (newLine 4) (sends-16 3 by x y) (sends-24 1 other-by x y z)
-  unfolding newLine pick
+  unfolding newLine
   longer-pair = record {
     one = is-16 (newLine 4) 3 by x y (omega arith) h k;
     other = is-24 (newLine 4) 1 other-by x y z (omega arith) h k m;
-    one-watches = watching 4 (sends-16 3 by x y) refl;
-    other-watches = watching 4 (sends-24 1 other-by x y z) refl;
+    one-watches = watching 4 (sends-16 3 by x y) (inl refl);
+    other-watches = watching 4 (sends-24 1 other-by x y z) (inr refl);
     apart = λ e. let none : ⊥ = omega (arith, e) in none;
   }
 
-  pub beginning-clashes : (j : ℕ) × Clashed (newLine 4) (sends-16 3 by x y) (sends-24 1 other-by x y z) j
+  differ-in-bytes : frameIn (sends-16 3 by x y) ≡ frameIn (sends-24 1 other-by x y z) → ⊥
   unfolding bytes-in bytesOf frameOf pick
+  differ-in-bytes e = let none : ⊥ = omega (arith, ap bytes-in e) in none
+
+  abbrev begun : BenchLine
+  begun = bothOn (newLine 4) (sends-16 3 by x y) (sends-24 1 other-by x y z)
+
+  pub beginning-clashes : (j : ℕ) × (Clashed begun (sends-16 3 by x y) (sends-24 1 other-by x y z) j ⊎ Clashed begun (sends-24 1 other-by x y z) (sends-16 3 by x y) j)
   beginning-clashes =
-      different-frames (newLine 4) four-reached (new-all-idle 4) (sends-16 3 by x y) (sends-24 1 other-by x y z) longer-pair
-      (λ e. let none : ⊥ = omega (arith, ap bytes-in e) in none)
+      different-frames (newLine 4) four-reached (new-all-idle 4) (sends-16 3 by x y) (sends-24 1 other-by x y z) longer-pair differ-in-bytes
+
+  pub beginning-retries : (j : ℕ) × (Retries begun (sends-16 3 by x y) (sends-24 1 other-by x y z) j ⊎ Retries begun (sends-24 1 other-by x y z) (sends-16 3 by x y) j)
+  beginning-retries = retry (newLine 4) four-reached (new-all-idle 4) (sends-16 3 by x y) (sends-24 1 other-by x y z) longer-pair differ-in-bytes
+
+-- On a line of two, with no listener: any frames that differ in their first byte.
+first-in : Frame → ℕ
+first-in frame = getD (bytesOf frame) 0 0
+
+module _ (x y u v : ℕ) (h : x < 256) (k : y < 256) (p : u < 256) (q : v < 256) (apart : x ≡ u → ⊥) (by other-by : Start) where
+  abbrev zeroth : Sender
+  zeroth = sends-16 0 by x y
+
+  abbrev next : Sender
+  next = sends-16 1 other-by u v
+
+  two-pair : Pair (newLine 2) zeroth next
+  unfolding newLine
+  two-pair = record {
+    one = is-16 (newLine 2) 0 by x y (omega arith) h k;
+    other = is-16 (newLine 2) 1 other-by u v (omega arith) p q;
+    one-watches = watching 2 zeroth (inl refl);
+    other-watches = watching 2 next (inl refl);
+    apart = λ e. let none : ⊥ = omega (arith, e) in none;
+  }
+
+  pub two-retry : (j : ℕ) × (Retries (bothOn (newLine 2) zeroth next) zeroth next j ⊎ Retries (bothOn (newLine 2) zeroth next) next zeroth j)
+  unfolding first-in bytesOf frameOf pick
+  two-retry = retry (newLine 2) two-reached (new-all-idle 2) zeroth next two-pair (λ e. apart (ap first-in e))
 
 -- ---- a line with a history
 -- a policy is set: all else stays
@@ -203,7 +231,7 @@ sent-reached : ReachedLine sent-once
 sent-reached = ticks-reached 230 (startedOn (newLine 4) earlier .line) (reached-on (newLine 4) earlier earlier-is four-reached)
 
 sent-idle : AllIdle sent-once
-sent-idle = lone-sender (newLine 4) four-reached (new-all-idle 4) earlier earlier-is .rests
+sent-idle = lone-sender (newLine 4) four-reached (new-all-idle 4) earlier earlier-is .rests 230 (omega arith)
 
 sent-four : stationsOn sent-once ≡ 4
 unfolding newLine
@@ -269,35 +297,92 @@ module _ (x y : ℕ) (h : x < 256) (k : y < 256) (u v w : ℕ) (p : u < 256) (q 
   one-on-old : IsSender old-line one
   one-on-old = is-24 old-line 0 by u v w (omega (arith, old-four)) p q r
 
-  old-pair : (other : Sender) → other .number ≡ 2 → IsSender old-line other → pick (eqb (other .bits) 16) true (eqb (other .bits) 24) ≡ true → Pair old-line one other
-  unfolding pick
+  old-pair : (other : Sender) → other .number ≡ 2 → IsSender old-line other → (other .bits ≡ 16) ⊎ (other .bits ≡ 24) → Pair old-line one other
   old-pair other at-2 is wide = record {
     one = one-on-old;
     other = is;
-    one-watches = record { long = refl; not-off = λ off. on-not-off (sym zero-watches ∙ off) };
-    other-watches = record { long = wide; not-off = λ off. auto-not-off (sym (ap (λ n. stationAt old-line n .core .«collision_policy») at-2 ∙ two-watches) ∙ off) };
+    one-watches = record { long = inr refl; policy = inr zero-watches };
+    other-watches = record { long = wide; policy = inl (ap (λ n. stationAt old-line n .core .«collision_policy») at-2 ∙ two-watches) };
     apart = λ e. let none : ⊥ = omega (arith, e, at-2) in none;
   }
 
+  long-pair : Pair old-line one long
+  long-pair = old-pair long refl (is-24 old-line 2 other-by u v w (omega (arith, old-four)) p q r) (inr refl)
+
   pub old-line-agrees : Agreed old-line one long
-  unfolding pick
-  old-line-agrees =
-      equal-frames old-line old-reached old-idle one long (old-pair long refl (is-24 old-line 2 other-by u v w (omega (arith, old-four)) p q r) refl) refl
+  old-line-agrees = equal-frames old-line old-reached old-idle one long long-pair refl
 
   short-pair : Pair old-line one short
-  unfolding pick
-  short-pair = old-pair short refl (is-16 old-line 2 other-by x y (omega (arith, old-four)) h k) refl
+  short-pair = old-pair short refl (is-16 old-line 2 other-by x y (omega (arith, old-four)) h k) (inl refl)
 
   pub old-line-starts : (startedOn old-line one .answer ≡ Told Started) × (startedOn (startedOn old-line one .line) short .answer ≡ Told Started)
   old-line-starts = both-started old-line old-reached old-idle one short short-pair
 
-  pub old-line-clashes : (j : ℕ) × Clashed old-line one short j
+  other-frames : frameIn one ≡ frameIn short → ⊥
   unfolding bytes-in bytesOf frameOf pick
-  old-line-clashes =
-      different-frames old-line old-reached old-idle one short short-pair (λ e. let none : ⊥ = omega (arith, ap bytes-in e) in none)
+  other-frames e = let none : ⊥ = omega (arith, ap bytes-in e) in none
+
+  pub old-line-clashes : (j : ℕ) × (Clashed (bothOn old-line one short) one short j ⊎ Clashed (bothOn old-line one short) short one j)
+  old-line-clashes = different-frames old-line old-reached old-idle one short short-pair other-frames
 
   -- and so each breaks at its tick
-  pub old-line-breaks : let j = old-line-clashes .0 in
+  pub place : (j : ℕ) × FirstDifference (bufferIn one) (bufferIn short) j
+  place = first-difference old-line old-reached old-idle one short short-pair other-frames
+
+  pub old-line-breaks : let j = place .0 in
       Breaks (bothOn old-line one short) 0 (clashAt (bufferIn one) j) (pullsIn (bufferIn one) j)
       × Breaks (bothOn old-line one short) 2 (clashAt (bufferIn short) j) (pullsIn (bufferIn short) j)
-  old-line-breaks = clash-ticks old-line old-reached old-idle one short short-pair (old-line-clashes .0) (old-line-clashes .1 .first-difference)
+  old-line-breaks = clash-ticks old-line old-reached old-idle one short short-pair (place .0) (place .1)
+
+  -- ---- calls in another order, and a tick between
+  -- the frame's other sender and a listener are asked before, and a policy is set
+  abbrev before : List LineCall
+  before = take-rx 1 ∷ policy 3 Off ∷ poll 2 ∷ tick ∷ take-idle 2 ∷ []
+
+  before-starts-nothing : StartNothing before
+  unfolding Each startsNothing
+  before-starts-nothing = (refl, (refl, (refl, (refl, (refl, tt)))))
+
+  leaves-poll : Without (poll 0) before
+  unfolding Each
+  leaves-poll = (λ e. differ (cc), (λ e. differ (cc), (λ e. differ (cc), (λ e. differ (cc), (λ e. differ (cc), tt)))))
+
+  leaves-take : Without (take-rx 3) before × Without (acknowledge 3) before
+  unfolding Each
+  leaves-take = (
+    (λ e. differ (cc), (λ e. differ (cc), (λ e. differ (cc), (λ e. differ (cc), (λ e. differ (cc), tt))))),
+    (λ e. differ (cc), (λ e. differ (cc), (λ e. differ (cc), (λ e. differ (cc), (λ e. differ (cc), tt))))),
+  )
+
+  pub zero-still-knows : Polls Collision 0 (lineAfterAll before (ticksOn 230 (bothOn old-line one short)))
+  zero-still-knows =
+      let (zero-keeps, two-keeps) = different-frames-in-any-order old-line old-reached old-idle one short short-pair (place .0) (place .1) 230 (omega arith) in
+      zero-keeps .knows before before-starts-nothing leaves-poll
+
+  pub three-still-holds : HoldsFrame (frameIn one) 3 (lineAfterAll before (ticksOn 300 (bothOn old-line one long)))
+  three-still-holds =
+      let (zero-ok, two-ok, listeners) = equal-frames-in-any-order old-line old-reached old-idle one long long-pair refl 300 (omega arith) in
+      listeners 3 (omega (arith, old-four)) (λ e. let none : ⊥ = omega (arith, e) in none) (λ e. let none : ⊥ = omega (arith, e) in none)
+      before before-starts-nothing (leaves-take .0) (leaves-take .1)
+
+  pub three-holds-from-one : HoldsFrame (frameIn one) 3 (lineAfterAll before (ticksOn 230 (startedOn old-line one .line)))
+  three-holds-from-one =
+      lone-sender-in-any-order old-line old-reached old-idle one one-on-old 230 (omega arith) .1 3 (omega (arith, old-four)) (λ e. let none : ⊥ = omega (arith, e) in none)
+      before before-starts-nothing (leaves-take .0) (leaves-take .1)
+
+  -- ---- what gateways do: each polls and takes, and after a tick more the winner starts again
+  abbrev asked : List LineCall
+  asked = poll 0 ∷ poll 2 ∷ take-idle 0 ∷ take-idle 2 ∷ tick ∷ []
+
+  asked-starts-nothing : StartNothing asked
+  unfolding Each startsNothing
+  asked-starts-nothing = (refl, (refl, (refl, (refl, (refl, tt)))))
+
+  asked-ticks : 231 ≤ 230 + ticksIn asked
+  unfolding ticksIn isTick pick
+  asked-ticks = omega arith
+
+  pub old-line-retries : let now = lineAfterAll asked (ticksOn 230 (bothOn old-line one short)) in Alone now (again one by) ⊎ Alone now (again short by)
+  old-line-retries =
+      let (j, who) = retry old-line old-reached old-idle one short short-pair other-frames in
+      ⊎-elim (λ r. inl (r .alone 230 (omega arith) asked asked-starts-nothing asked-ticks by)) (λ r. inr (r .alone 230 (omega arith) asked asked-starts-nothing asked-ticks by)) who

@@ -1,25 +1,21 @@
 -- Two senders started between the same two ticks (specs/TwoSenders, specs/Clash). Assumes nothing.
-use Prim.Native.Nat.{ℕ, suc, _+_, _<_, _≤_}
+use Prim.Native.Nat.{ℕ, suc, _+_, _-_, _<_, _≤_}
 use native.Mathlib.Omega.{arith}
 use native.Mathlib.Decide.{ℕ-discrete}
 use mathlib.Core.Bool.{Bool, true, false, not}
-use mathlib.Core.Logic.{_⊎_, inl, inr}
+use mathlib.Core.List.{[], _∷_}
+use mathlib.Core.Logic.{_⊎_, inl, inr, ⊎-elim}
 use mathlib.Core.Path.{_≡_, refl, sym, _∙_, ap, subst}
-use lib.Dec.{eqb}
 use lib.ListN.{length}
-use borrow.Author.Tests.{eqb-true, ne-eqb}
+use borrow.Author.Tests.{ne-eqb}
 use Rattle.laws.specs.Pick.{pick}
-use Rattle.laws.proofs.Picked.{cases}
 use Rattle.halfbits.specs.declared.HalfBitBuffer.{HalfBitBuffer}
 use Rattle.halfbits.specs.Frame.{frameBits}
 use Rattle.halfbits.specs.HalfBits.{pulls, halfBitsOf}
 use Rattle.halfbits.specs.Wave.{high, low}
 use Rattle.machine.specs.declared.CollisionPolicy.{CollisionPolicy}
-use Rattle.machine.specs.declared.CollisionPolicy.the-variants.{Auto, Off, On}
 use Rattle.machine.specs.Sending.{watchesOf}
 use Rattle.fsm.specs.declared.DaliBitbangPhy.{DaliBitbangPhy}
-use Rattle.fsm.specs.declared.TxPollResult.the-variants.{Collision}
-use Rattle.fsm.specs.Polling.{polled}
 use Rattle.bench_line.specs.declared.BenchLine.{BenchLine}
 use Rattle.bench_line.specs.Line.{stationsOn, stationAt}
 use Rattle.reached.specs.Ticks.{IsIdle, heard}
@@ -27,25 +23,35 @@ use Rattle.frames.specs.Sends.{Sends}
 use Rattle.frames.proofs.SendingTicks as sending
 use Rattle.frames.proofs.Sending.{sends}
 use Rattle.frames.proofs.OneFrame.{one-wave-one-frame}
-use Rattle.line_theorems.specs.Reached.{ReachedLine}
-use Rattle.line_theorems.specs.OnLine.{ticksOn, AllIdle, Sender, frameIn, bufferIn, IsSender, startedOn, Polls, FindsIdle}
-use Rattle.line_theorems.specs.TwoSenders.{Pair, bothOn, BothStarted, EqualFrames, pullsIn, FirstDifference, DifferentFrames}
-use Rattle.line_theorems.specs.Clash.{drivenAt, clashAt, Breaks, ClashTicks}
-use Rattle.line_theorems.proofs.Starting.{bitsIn, many-bits, few-bits, fits, buffer-is, same-stations, reached-on, at-other, answers, ready, tells-poll, tells-idle}
-use Rattle.line_theorems.proofs.Hearing.{levels, same-count, on-line, Listens}
-use Rattle.line_theorems.proofs.Agreeing.{last-complete, sender-sent, listener-holds}
-use Rattle.line_theorems.proofs.Differing.{pulls-in, differ, in-winner}
+use Rattle.line_theorems.specs.Reached.{ReachedLine, poll, take-idle, take-rx, acknowledge, lineAfterAll, Each, startsNothing}
+use Rattle.line_theorems.specs.OnLine.{ticksOn, AllIdle, Sender, frameIn, bufferIn, IsSender, startedOn, Breaks, InARow}
+use Rattle.line_theorems.specs.TwoSenders.{Watches, Pair, bothOn, BothStarted, EqualFrames, pullsIn, FirstDifference, Clashed, DifferentFrames}
+use Rattle.line_theorems.specs.Clash.{drivenAt, clashAt, ClashTicks}
+use Rattle.line_theorems.specs.AnyOrder.{EqualFramesInAnyOrder, KeepsClash, DifferentFramesInAnyOrder}
+use Rattle.line_theorems.proofs.Starting.{bitsIn, many-bits, few-bits, fits, buffer-is, same-stations, reached-on, at-other, answers, ready}
+use Rattle.line_theorems.proofs.Hearing.{levels, ticks-reached, same-count, on-line, Listens, Settles, settles-later}
+use Rattle.line_theorems.proofs.Asking.{On, Settling, settled-line}
+use Rattle.line_theorems.proofs.Telling.{Clashes, keeps-ok, keeps-clash, Event, keeps-frame}
+use Rattle.line_theorems.proofs.Agreeing.{last-complete, sender-sent, listener-holds, all-rest}
+use Rattle.line_theorems.proofs.Differing.{pulls-in, differ, by-216}
 use Rattle.line_theorems.proofs.Clashing.{Ready, clashes}
 
 -- ---- Auto and On watch frames of 16 and 24 bits
-watches : (policy : CollisionPolicy) → (policy ≡ Off → ⊥) → (n : ℕ) → 9 ≤ n → watchesOf policy (halfBitsOf n) ≡ true
-unfolding watchesOf
-watches Auto on n long = ap not (ne-eqb (halfBitsOf n) 22 (λ e. let none : ⊥ = omega (arith, e) in none))
-watches Off on n long = absurd (on refl)
-watches On on n long = refl
+module _ (l : BenchLine) (a : Sender) (is : IsSender l a) (w : Watches l a) where
+  abbrev policyIs : CollisionPolicy
+  policyIs = stationAt l (a .number) .core .«collision_policy»
 
-long-bits : (n : ℕ) → pick (eqb n 16) true (eqb n 24) ≡ true → 9 ≤ n
-long-bits n = cases (λ x. x ≡ true → 9 ≤ n) (eqb n 16) (λ e _. let is = eqb-true n 16 e in omega (arith, is)) (λ _ e. let is = eqb-true n 24 e in omega (arith, is))
+  not-8 : 9 ≤ a .bits
+  not-8 = ⊎-elim (λ e. omega (arith, e)) (λ e. omega (arith, e)) (w .long)
+
+  watched : watchesOf policyIs (halfBitsOf (length (bitsIn a))) ≡ true
+  unfolding watchesOf
+  watched =
+      ⊎-elim (λ e. rw e (ap not (ne-eqb (halfBitsOf (length (bitsIn a))) 22 (λ same. let none : ⊥ = omega (arith, same, not-8, many-bits l a is) in none)))) (λ e. rw e refl)
+      (w .policy)
+
+  as-long : (length (bitsIn a) ≡ 16) ⊎ (length (bitsIn a) ≡ 24)
+  as-long = ⊎-elim (λ e. inl (many-bits l a is ∙ e)) (λ e. inr (many-bits l a is ∙ e)) (w .long)
 
 -- ---- the line with both started
 module _ (l : BenchLine) (reached : ReachedLine l) (idle : AllIdle l) (a b : Sender) (pair : Pair l a b) where
@@ -74,7 +80,7 @@ module _ (l : BenchLine) (reached : ReachedLine l) (idle : AllIdle l) (a b : Sen
   both-reached : ReachedLine both
   both-reached = reached-on first b other-is first-reached
 
-  same : stationsOn both ≡ stationsOn l
+  pub same : stationsOn both ≡ stationsOn l
   same = same-stations first b other-is ∙ same-stations l a (pair .one)
 
   abbrev policyOf : Sender → CollisionPolicy
@@ -84,7 +90,7 @@ module _ (l : BenchLine) (reached : ReachedLine l) (idle : AllIdle l) (a b : Sen
   one-ready = record {
     on = omega (arith, pair .one .on, same);
     fits = fits l a (pair .one);
-    watched = watches (policyOf a) (pair .one-watches .not-off) _ (omega (arith, many-bits l a (pair .one), long-bits (a .bits) (pair .one-watches .long)));
+    watched = watched l a (pair .one) (pair .one-watches);
     sender =
         subst (λ (s : DaliBitbangPhy). sending.Sender (bitsIn a) (policyOf a) 3 0 0 high s) (sym (at-other first b other-is (a .number) (pair .apart)))
         (ready l a (pair .one) reached (idle (a .number) (pair .one .on)));
@@ -94,7 +100,7 @@ module _ (l : BenchLine) (reached : ReachedLine l) (idle : AllIdle l) (a b : Sen
   other-ready = record {
     on = omega (arith, pair .other .on, same);
     fits = fits l b (pair .other);
-    watched = watches (policyOf b) (pair .other-watches .not-off) _ (omega (arith, many-bits l b (pair .other), long-bits (b .bits) (pair .other-watches .long)));
+    watched = watched l b (pair .other) (pair .other-watches);
     sender =
         subst (λ (s : DaliBitbangPhy). sending.Sender (bitsIn b) (s .core .«collision_policy») 3 0 0 high (stationAt both (b .number))) b-before
         (ready first b other-is first-reached b-idle);
@@ -131,69 +137,133 @@ module _ (l : BenchLine) (reached : ReachedLine l) (idle : AllIdle l) (a b : Sen
       go (no d) (yes e) = inr (subst Sends-frame (sym e) other-sends)
       go (no d) (no c) = inl (listening l reached idle a b pair n on d c)
 
+  module _ (ticks : ℕ) (late : 230 ≤ ticks) where
+    abbrev now : BenchLine
+    now = ticksOn ticks (bothOn l a b)
+
+    -- the four armed ticks, and those of the wave
+    abbrev waves : ℕ
+    waves = ticks - 4
+
+    ticks-are : 4 + waves ≡ ticks
+    ticks-are = omega arith
+
+    sent : (n : ℕ) → n < stationsOn (bothOn l a b) → Sends-frame n → On n (Clashes 0) now
+    sent n on sends-n =
+        sender-sent (bothOn l a b) (both-reached l reached idle a b pair) (frameIn a) (pair .one .are-bytes) role (a .number) (one-ready l reached idle a b pair .on) one-sends ticks
+        n on sends-n (omega (arith, few-bits l a (pair .one)))
+
+    one-ok : On (a .number) (Clashes 0) now
+    one-ok = sent (a .number) (one-ready l reached idle a b pair .on) one-sends
+
+    other-ok : On (b .number) (Clashes 0) now
+    other-ok = sent (b .number) (other-ready l reached idle a b pair .on) other-sends
+
+    holds : (n : ℕ) → n < stationsOn l → (n ≡ a .number → ⊥) → (n ≡ b .number → ⊥) → On n (Event (frameIn a)) now
+    holds n on from-a from-b =
+        let here : n < stationsOn (bothOn l a b) = omega (arith, on, same l reached idle a b pair) in
+        subst (λ t. On n (Event (frameIn a)) (ticksOn t (bothOn l a b))) ticks-are
+        (listener-holds (bothOn l a b) (both-reached l reached idle a b pair) (frameIn a) (pair .one .are-bytes) role (a .number) (one-ready l reached idle a b pair .on) one-sends waves
+        n here (listening l reached idle a b pair n here from-a from-b) (omega (arith, few-bits l a (pair .one), last-complete (bitsIn a))))
+
+    rest : AllIdle now
+    rest =
+        subst (λ t. AllIdle (ticksOn t (bothOn l a b))) ticks-are
+        (all-rest (bothOn l a b) (both-reached l reached idle a b pair) (frameIn a) (pair .one .are-bytes) role (a .number) (one-ready l reached idle a b pair .on) one-sends waves
+        (omega (arith, few-bits l a (pair .one), last-complete (bitsIn a))) (omega (arith, few-bits l a (pair .one))))
+
+-- a poll is none of the takes
+no-take : (m n : ℕ) → poll m ≡ take-idle n → ⊥
+no-take m n e = let none : _≡_ {A = ℕ} 0 1 = cc in omega (arith, none)
+
+not-taken : (m n : ℕ) → poll m ≡ take-rx n → ⊥
+not-taken m n e = let none : _≡_ {A = ℕ} 0 1 = cc in omega (arith, none)
+
+not-acknowledged : (m n : ℕ) → poll m ≡ acknowledge n → ⊥
+not-acknowledged m n e = let none : _≡_ {A = ℕ} 0 1 = cc in omega (arith, none)
+
+pub equal-frames-in-any-order : EqualFramesInAnyOrder
+equal-frames-in-any-order l reached idle a b pair equal ticks late = (
+  keeps-ok (a .number) _ (one-ok l reached idle a b pair equal ticks late),
+  keeps-ok (b .number) _ (other-ok l reached idle a b pair equal ticks late),
+  λ n on from-a from-b. keeps-frame (frameIn a) n _ (rest l reached idle a b pair equal ticks late) (holds l reached idle a b pair equal ticks late n on from-a from-b),
+)
+
 pub equal-frames : EqualFrames
-equal-frames l reached idle a b pair equal =
-    let one = one-ready l reached idle a b pair in
-    let other = other-ready l reached idle a b pair in
-    let few = few-bits l a (pair .one) in
-    let both-reached′ = both-reached l reached idle a b pair in
-    let roles = role l reached idle a b pair equal in
-    let sends-a = one-sends l reached idle a b pair equal in
-    let sends-b = other-sends l reached idle a b pair equal in
-    let sent = sender-sent (bothOn l a b) both-reached′ (frameIn a) (pair .one .are-bytes) roles (a .number) (one .on) sends-a 230 in
-    record {
-      one-sent = sent (a .number) (one .on) sends-a (omega (arith, few));
-      other-sent = sent (b .number) (other .on) sends-b (omega (arith, few));
-      heard = λ n on from-a from-b.
-          let here : n < stationsOn (bothOn l a b) = omega (arith, on, same l reached idle a b pair) in
-          listener-holds (bothOn l a b) both-reached′ (frameIn a) (pair .one .are-bytes) roles (a .number) (one .on) sends-a 226 n here
-          (listening l reached idle a b pair n here from-a from-b) (omega (arith, few, last-complete (bitsIn a)));
-    }
+unfolding InARow lineAfterAll Each startsNothing
+equal-frames l reached idle a b pair equal = record {
+  sent = λ ticks late.
+      let (one, other, _) = equal-frames-in-any-order l reached idle a b pair equal ticks late in
+      (one [] tt, (other (poll (a .number) ∷ []) (refl, tt), tt));
+  heard = λ ticks late n on from-a from-b.
+      let (_, _, heard-by) = equal-frames-in-any-order l reached idle a b pair equal ticks late in
+      heard-by n on from-a from-b (poll (a .number) ∷ poll (b .number) ∷ []) (refl, (refl, tt))
+      (not-taken (a .number) n, (not-taken (b .number) n, tt)) (not-acknowledged (a .number) n, (not-acknowledged (b .number) n, tt));
+  rests = rest l reached idle a b pair equal;
+}
 
 -- ---- different frames
-says-collision : {found : Bool} (s : DaliBitbangPhy) → Listens 1 found false s → polled s .answer ≡ Collision
-unfolding polled pick
-says-collision s h = rw (h .yields, h .collisions)
+-- the tick at which the winner sees the clash
+abbrev winnerAt : HalfBitBuffer → ℕ → ℕ
+winnerAt hb j = pick (pullsIn hb (suc j)) (drivenAt j + 10) (drivenAt j + 6)
 
--- what is said of the winner and of the loser, said of a sender by whether it pulled
-module _ (l : BenchLine) (j number : ℕ) where
-  pub record Outcome (hb : HalfBitBuffer) : Type 0 where
-    pub breaks : Breaks l number (clashAt hb j) (pullsIn hb j)
-    pub listens : (t : ℕ) → drivenAt j + 24 ≤ t → Listens 1 (pullsIn hb j) false (heard t (levels l) (stationAt l number))
-
-  as-winner : (hb : HalfBitBuffer) → pullsIn hb j ≡ true → Breaks l number (pick (pullsIn hb (suc j)) (drivenAt j + 10) (drivenAt j + 6)) high
-      → ((t : ℕ) → drivenAt j + 24 ≤ t → Listens 1 high false (heard t (levels l) (stationAt l number))) → Outcome hb
-  unfolding pick
-  as-winner hb e breaks listens = record { breaks = rw e breaks; listens = rw e listens }
-
-  as-loser : (hb : HalfBitBuffer) → pullsIn hb j ≡ false → Breaks l number (drivenAt j + 2) low
-      → ((t : ℕ) → drivenAt j + 24 ≤ t → Listens 1 low false (heard t (levels l) (stationAt l number))) → Outcome hb
-  unfolding pick
-  as-loser hb e breaks listens = record { breaks = rw e breaks; listens = rw e listens }
+-- all that becomes of the two
+pub record Settled (l : BenchLine) (winner loser : Sender) (j : ℕ) : Type 0 where
+  pub winner-breaks : Breaks l (winner .number) (winnerAt (bufferIn winner) j) high
+  pub loser-breaks : Breaks l (loser .number) (drivenAt j + 2) low
+  pub in-time : winnerAt (bufferIn winner) j + 14 ≤ 216
+  pub loser-first : drivenAt j + 2 ≤ winnerAt (bufferIn winner) j
+  pub winner-tells : (ticks : ℕ) → 230 ≤ ticks → On (winner .number) (Listens 1 true false) (ticksOn ticks l)
+  pub loser-tells : (ticks : ℕ) → 230 ≤ ticks → On (loser .number) (Listens 1 false false) (ticksOn ticks l)
+  pub settles : (ticks : ℕ) → 230 ≤ ticks → Settling (231 - ticks) (ticksOn ticks l)
 
 -- a sender whose store has the half-bits of its bits
-pub record Told (l : BenchLine) (c : Sender) : Type 0 where
+pub record Side (l : BenchLine) (c : Sender) : Type 0 where
   pub policy : CollisionPolicy
   pub ready-on : Ready l (c .number) (bitsIn c) policy
+  pub long : (length (bitsIn c) ≡ 16) ⊎ (length (bitsIn c) ≡ 24)
   pub few : length (bitsIn c) ≤ 24
   pub pulls-are : (i : ℕ) → pullsIn (bufferIn c) i ≡ pulls (bitsIn c) i
 
-settled : (l : BenchLine) → ReachedLine l → (lo wi : Sender) → Told l lo → Told l wi
-    → ((n : ℕ) → n < stationsOn l → (n ≡ lo .number → ⊥) → (n ≡ wi .number → ⊥) → IsIdle (stationAt l n))
-    → (j : ℕ) → ((i : ℕ) → i < j → pullsIn (bufferIn lo) i ≡ pullsIn (bufferIn wi) i) → pullsIn (bufferIn lo) j ≡ false → pullsIn (bufferIn wi) j ≡ true
-    → Outcome l j (lo .number) (bufferIn lo) × Outcome l j (wi .number) (bufferIn wi) × (j ≤ 49)
-settled l reached lo wi L W others j same released pulled =
-    let same-pulls : (i : ℕ) → i < j → pulls (bitsIn lo) i ≡ pulls (bitsIn wi) i = λ i h. sym (L .pulls-are i) ∙ same i h ∙ W .pulls-are i in
-    let lo-releases = sym (L .pulls-are j) ∙ released in
-    let wi-pulls = sym (W .pulls-are j) ∙ pulled in
-    let over = clashes l reached (L .ready-on) (W .ready-on) others j same-pulls lo-releases wi-pulls in
-    let inside = in-winner (bitsIn lo) (bitsIn wi) j same-pulls lo-releases wi-pulls in (
-      as-loser l j (lo .number) (bufferIn lo) released (over .loser-breaks) (over .loser-listens),
-      as-winner l j (wi .number) (bufferIn wi) pulled
-          (subst (λ next. Breaks l (wi .number) (pick next (drivenAt j + 10) (drivenAt j + 6)) high) (sym (W .pulls-are (suc j))) (over .winner-breaks)) (over .winner-listens),
-      omega (arith, inside, W .few),
-    )
+-- what is so of a station that has heard so many ticks, on the line
+on-now : (l : BenchLine) → ReachedLine l → (n : ℕ) → n < stationsOn l → (P : DaliBitbangPhy → Type 0) (t : ℕ) → P (heard t (levels l) (stationAt l n)) → On n P (ticksOn t l)
+on-now l reached n on P t p = record { reached = ticks-reached t l reached; on = omega (arith, on, same-count t l); is = subst P (sym (on-line l reached n on t)) p }
 
+module _ (l : BenchLine) (reached : ReachedLine l) (wi lo : Sender) (W : Side l wi) (L : Side l lo)
+    (others : (n : ℕ) → n < stationsOn l → (n ≡ lo .number → ⊥) → (n ≡ wi .number → ⊥) → IsIdle (stationAt l n))
+    (j : ℕ) (same : (i : ℕ) → i < j → pullsIn (bufferIn lo) i ≡ pullsIn (bufferIn wi) i)
+    (released : pullsIn (bufferIn lo) j ≡ false) (pulled : pullsIn (bufferIn wi) j ≡ true) where
+  same-pulls : (i : ℕ) → i < j → pulls (bitsIn lo) i ≡ pulls (bitsIn wi) i
+  same-pulls i h = sym (L .pulls-are i) ∙ same i h ∙ W .pulls-are i
+
+  lo-releases : pulls (bitsIn lo) j ≡ false
+  lo-releases = sym (L .pulls-are j) ∙ released
+
+  wi-pulls : pulls (bitsIn wi) j ≡ true
+  wi-pulls = sym (W .pulls-are j) ∙ pulled
+
+  settled : Settled l wi lo j
+  settled =
+      let next = W .pulls-are (suc j) in
+      let over = rw (sym next) at (clashes l reached (L .ready-on) (W .ready-on) others j same-pulls lo-releases wi-pulls) in
+      let early = rw (sym next) at (by-216 (bitsIn lo) (bitsIn wi) j same-pulls lo-releases wi-pulls (L .long) (W .few)) in
+      record {
+        winner-breaks = over .winner-breaks;
+        loser-breaks = over .loser-breaks;
+        in-time = early;
+        loser-first = over .loser-first;
+        winner-tells = λ t late. on-now l reached (wi .number) (W .ready-on .on) (Listens 1 true false) t (over .winner-listens t (omega (arith, early, late)));
+        loser-tells = λ t late. on-now l reached (lo .number) (L .ready-on .on) (Listens 1 false false) t (over .loser-listens t (omega (arith, early, late)));
+        settles = λ t late. record {
+          reached = ticks-reached t l reached;
+          settles = λ n on.
+              let here : n < stationsOn l = omega (arith, on, same-count t l) in
+              on-now l reached n here (λ s. Settles (231 - t) s) t
+              (settles-later (winnerAt (bufferIn wi) j + 29 - t) (231 - t) (omega (arith, early)) (heard t (levels l) (stationAt l n)) (over .all-settle t (omega (arith, early, late)) n here)) .is;
+        };
+      }
+
+-- ---- who is who
 module _ (l : BenchLine) (reached : ReachedLine l) (idle : AllIdle l) (a b : Sender) (pair : Pair l a b) where
   abbrev here : BenchLine
   here = bothOn l a b
@@ -201,25 +271,54 @@ module _ (l : BenchLine) (reached : ReachedLine l) (idle : AllIdle l) (a b : Sen
   store-pulls : (c : Sender) → IsSender l c → (i : ℕ) → pullsIn (bufferIn c) i ≡ pulls (bitsIn c) i
   store-pulls c is i = ap (λ (hb : HalfBitBuffer). pullsIn hb i) (buffer-is l c is) ∙ pulls-in (bitsIn c) i (fits l c is)
 
-  one-told : Told here a
-  one-told = record { policy = _; ready-on = one-ready l reached idle a b pair; few = few-bits l a (pair .one); pulls-are = store-pulls a (pair .one) }
+  one-side : Side here a
+  one-side = record {
+    policy = _;
+    ready-on = one-ready l reached idle a b pair;
+    long = as-long l a (pair .one) (pair .one-watches);
+    few = few-bits l a (pair .one);
+    pulls-are = store-pulls a (pair .one);
+  }
 
-  other-told : Told here b
-  other-told = record { policy = _; ready-on = other-ready l reached idle a b pair; few = few-bits l b (pair .other); pulls-are = store-pulls b (pair .other) }
+  other-side : Side here b
+  other-side = record {
+    policy = _;
+    ready-on = other-ready l reached idle a b pair;
+    long = as-long l b (pair .other) (pair .other-watches);
+    few = few-bits l b (pair .other);
+    pulls-are = store-pulls b (pair .other);
+  }
+
+  -- the half-bit's levels, and so the winner and the loser
+  pub record Won (winner loser : Sender) (j : ℕ) : Type 0 where
+    pub first-difference : FirstDifference (bufferIn winner) (bufferIn loser) j
+    pub pulled : pullsIn (bufferIn winner) j ≡ true
+    pub released : pullsIn (bufferIn loser) j ≡ false
+    pub settled-so : Settled here winner loser j
 
   module _ (j : ℕ) (d : FirstDifference (bufferIn a) (bufferIn b) j) where
-    outcomes : (x y : Bool) → pullsIn (bufferIn a) j ≡ x → pullsIn (bufferIn b) j ≡ y
-        → Outcome here j (a .number) (bufferIn a) × Outcome here j (b .number) (bufferIn b) × (j ≤ 49)
-    outcomes true true e f = absurd (d .differs (e ∙ sym f))
-    outcomes false false e f = absurd (d .differs (e ∙ sym f))
-    outcomes true false e f =
-        let (other, one, early) = settled here (both-reached l reached idle a b pair) b a other-told one-told
-        (λ n on from-b from-a. listening l reached idle a b pair n on from-a from-b) j (λ i h. sym (d .same i h)) f e in
-        (one, other, early)
-    outcomes false true e f = settled here (both-reached l reached idle a b pair) a b one-told other-told (listening l reached idle a b pair) j (d .same) e f
+    by-levels : (x y : Bool) → pullsIn (bufferIn a) j ≡ x → pullsIn (bufferIn b) j ≡ y → Won a b j ⊎ Won b a j
+    by-levels true true e f = absurd (d .differs (e ∙ sym f))
+    by-levels false false e f = absurd (d .differs (e ∙ sym f))
+    by-levels true false e f = inl (record {
+      first-difference = d;
+      pulled = e;
+      released = f;
+      settled-so = settled here (both-reached l reached idle a b pair) a b one-side other-side
+          (λ n on from-b from-a. listening l reached idle a b pair n on from-a from-b) j (λ i h. sym (d .same i h)) f e;
+    })
+    by-levels false true e f = inr (record {
+      first-difference = record { same = λ i h. sym (d .same i h); differs = λ same. d .differs (sym same) };
+      pulled = f;
+      released = e;
+      settled-so = settled here (both-reached l reached idle a b pair) b a other-side one-side (listening l reached idle a b pair) j (d .same) e f;
+    })
+
+    pub who-won : Won a b j ⊎ Won b a j
+    who-won = by-levels (pullsIn (bufferIn a) j) (pullsIn (bufferIn b) j) refl refl
 
   -- Where the frames differ, so do their half-bits somewhere.
-  first-difference : (frameIn a ≡ frameIn b → ⊥) → (j : ℕ) × FirstDifference (bufferIn a) (bufferIn b) j
+  pub first-difference : (frameIn a ≡ frameIn b → ⊥) → (j : ℕ) × FirstDifference (bufferIn a) (bufferIn b) j
   first-difference different =
       let (j, d) = differ (bitsIn a) (bitsIn b) (λ one. different (one-wave-one-frame (frameIn a) (frameIn b) (pair .one .are-bytes) (pair .other .are-bytes) one)) in (
         j,
@@ -229,38 +328,72 @@ module _ (l : BenchLine) (reached : ReachedLine l) (idle : AllIdle l) (a b : Sen
         },
       )
 
+  -- each of the two, by what it pulled there
+  winner-ticks : {winner loser : Sender} {j : ℕ} → Won winner loser j
+      → Breaks here (winner .number) (clashAt (bufferIn winner) j) (pullsIn (bufferIn winner) j)
+  unfolding pick
+  winner-ticks w = rw (w .pulled) (w .settled-so .winner-breaks)
+
+  loser-ticks : {winner loser : Sender} {j : ℕ} → Won winner loser j
+      → Breaks here (loser .number) (clashAt (bufferIn loser) j) (pullsIn (bufferIn loser) j)
+  unfolding pick
+  loser-ticks w = rw (w .released) (w .settled-so .loser-breaks)
+
+  module _ (ticks : ℕ) (late : 230 ≤ ticks) where
+    winner-keeps : {winner loser : Sender} {j : ℕ} → Won winner loser j → KeepsClash true (winner .number) (ticksOn ticks here)
+    winner-keeps {winner} w = keeps-clash (winner .number) true (ticksOn ticks here) (w .settled-so .winner-tells ticks late)
+
+    loser-keeps : {winner loser : Sender} {j : ℕ} → Won winner loser j → KeepsClash false (loser .number) (ticksOn ticks here)
+    loser-keeps {winner} {loser} w = keeps-clash (loser .number) false (ticksOn ticks here) (w .settled-so .loser-tells ticks late)
+
+  pub clashed : {winner loser : Sender} {j : ℕ} → (winner .number ≡ loser .number → ⊥) → Won winner loser j → Clashed here winner loser j
+  unfolding InARow lineAfterAll Each startsNothing
+  clashed {winner} {loser} {j} apart w =
+      let s = w .settled-so in
+      record {
+        first-difference = w .first-difference;
+        pulled = w .pulled;
+        released = w .released;
+        winner-sampled = (winnerAt (bufferIn winner) j, s .in-time, s .winner-breaks);
+        loser-sampled = (drivenAt j + 2, omega (arith, s .in-time, s .loser-first), s .loser-breaks);
+        told = λ ticks late.
+            let wins = winner-keeps ticks late w in
+            let loses = loser-keeps ticks late w in (
+              wins .knows [] tt tt,
+              (
+                loses .knows (poll (winner .number) ∷ []) (refl, tt) (λ e. apart (cc), tt),
+                (
+                  wins .finds (poll (winner .number) ∷ poll (loser .number) ∷ []) (refl, (refl, tt))
+                      (no-take (winner .number) (winner .number), (no-take (loser .number) (winner .number), tt)),
+                  (
+                    loses .finds (poll (winner .number) ∷ poll (loser .number) ∷ take-idle (winner .number) ∷ []) (refl, (refl, (refl, tt)))
+                        (no-take (winner .number) (loser .number), (no-take (loser .number) (loser .number), (λ e. apart (cc), tt))),
+                    tt,
+                  ),
+                ),
+              ),
+            );
+        rests = λ ticks late.
+            let none : 231 - ticks ≡ 0 = omega arith in
+            settled-line (ticksOn ticks here) (subst (λ n. Settling n (ticksOn ticks here)) none (s .settles ticks (omega arith)));
+      }
+
+-- ---- the theorems
 pub clash-ticks : ClashTicks
 clash-ticks l reached idle a b pair j d =
-    let (one, other, early) = outcomes l reached idle a b pair j d (pullsIn (bufferIn a) j) (pullsIn (bufferIn b) j) refl refl in
-    (one .breaks, other .breaks)
-
--- what a sender then tells after 230 ticks
-module _ (l : BenchLine) (reached : ReachedLine l) (j number : ℕ) (early : j ≤ 49) (on : number < stationsOn l) (hb : HalfBitBuffer) (o : Outcome l j number hb) where
-  still : Listens 1 (pullsIn hb j) false (stationAt (ticksOn 230 l) number)
-  still = subst (λ (s : DaliBitbangPhy). Listens 1 (pullsIn hb j) false s) (sym (on-line l reached number on 230)) (o .listens 230 (omega arith))
-
-  on-still : number < stationsOn (ticksOn 230 l)
-  on-still = omega (arith, on, same-count 230 l)
-
-  knows : Polls Collision number (ticksOn 230 l)
-  knows = tells-poll (ticksOn 230 l) number on-still Collision (says-collision _ still)
-
-  finds : FindsIdle (pullsIn hb j) number (ticksOn 230 l)
-  finds = tells-idle (ticksOn 230 l) number on-still (pullsIn hb j) (still .marked)
+    ⊎-elim (λ w. (winner-ticks l reached idle a b pair w, loser-ticks l reached idle a b pair w))
+    (λ w. (loser-ticks l reached idle a b pair w, winner-ticks l reached idle a b pair w)) (who-won l reached idle a b pair j d)
 
 pub different-frames : DifferentFrames
 different-frames l reached idle a b pair different =
-    let (j, d) = first-difference l reached idle a b pair different in
-    let (one, other, early) = outcomes l reached idle a b pair j d (pullsIn (bufferIn a) j) (pullsIn (bufferIn b) j) refl refl in
-    let is-reached = both-reached l reached idle a b pair in
-    let one-on = one-ready l reached idle a b pair .on in
-    let other-on = other-ready l reached idle a b pair .on in (
+    let (j, d) = first-difference l reached idle a b pair different in (
       j,
-      record {
-        first-difference = d;
-        one-knows = knows (bothOn l a b) is-reached j (a .number) early one-on (bufferIn a) one;
-        other-knows = knows (bothOn l a b) is-reached j (b .number) early other-on (bufferIn b) other;
-        one-finds = finds (bothOn l a b) is-reached j (a .number) early one-on (bufferIn a) one;
-        other-finds = finds (bothOn l a b) is-reached j (b .number) early other-on (bufferIn b) other;
-      },
+      ⊎-elim (λ w. inl (clashed l reached idle a b pair (pair .apart) w)) (λ w. inr (clashed l reached idle a b pair (λ e. pair .apart (sym e)) w))
+          (who-won l reached idle a b pair j d),
     )
+
+pub different-frames-in-any-order : DifferentFramesInAnyOrder
+different-frames-in-any-order l reached idle a b pair j d ticks late =
+    ⊎-elim (λ w. (rw (w .pulled) (winner-keeps l reached idle a b pair ticks late w), rw (w .released) (loser-keeps l reached idle a b pair ticks late w)))
+    (λ w. (rw (w .released) (loser-keeps l reached idle a b pair ticks late w), rw (w .pulled) (winner-keeps l reached idle a b pair ticks late w)))
+    (who-won l reached idle a b pair j d)

@@ -4,3 +4,5 @@ pub mod OnLine
 pub mod LoneSender
 pub mod TwoSenders
 pub mod Clash
+pub mod AnyOrder
+pub mod Retry

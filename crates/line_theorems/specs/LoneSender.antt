@@ -15,13 +15,14 @@ use Rattle.frames.specs.Sends.{idleAt}
 use Rattle.line_theorems.specs.Reached.{ReachedLine}
 use Rattle.line_theorems.specs.OnLine.{ticksOn, AllIdle, Sender, frameIn, IsSender, startedOn, HoldsFrame, Polls}
 
--- A start_tx or start_answer on a line that is all Idle is not refused. After 230 ticks every other station holds the sender's frame, the
+-- A start_tx or start_answer on a line that is all Idle is not refused. From tick 230 on every other station holds the sender's frame, the
 -- sender says that it was sent, and all are Idle again. Whatever the policies are.
 pub record Alone (l : BenchLine) (a : Sender) : Type 0 where
   pub started : startedOn l a .answer ≡ start.Told Started
-  pub heard : (listener : ℕ) → listener < stationsOn l → (listener ≡ a .number → ⊥) → HoldsFrame (frameIn a) listener (ticksOn 230 (startedOn l a .line))
-  pub sent : Polls Ok (a .number) (ticksOn 230 (startedOn l a .line))
-  pub rests : AllIdle (ticksOn 230 (startedOn l a .line))
+  pub heard : (ticks : ℕ) → 230 ≤ ticks → (listener : ℕ) → listener < stationsOn l → (listener ≡ a .number → ⊥)
+      → HoldsFrame (frameIn a) listener (ticksOn ticks (startedOn l a .line))
+  pub sent : (ticks : ℕ) → 230 ≤ ticks → Polls Ok (a .number) (ticksOn ticks (startedOn l a .line))
+  pub rests : (ticks : ℕ) → 230 ≤ ticks → AllIdle (ticksOn ticks (startedOn l a .line))
 
 abbrev pub LoneSender : Type 0
 LoneSender = (l : BenchLine) → ReachedLine l → AllIdle l → (a : Sender) → IsSender l a → Alone l a

@@ -1,22 +1,24 @@
 -- Senders and listeners on one line. Assumes nothing.
-use Prim.Native.Nat.{ℕ, zero, suc, _<_}
+use Prim.Native.Nat.{ℕ, zero, suc, _+_, _≤_, _<_}
 use mathlib.Core.Bool.{Bool, true}
+use mathlib.Core.List.{List, [], _∷_}
 use mathlib.Core.Path.{_≡_}
 use Rattle.halfbits.specs.declared.HalfBitBuffer.{HalfBitBuffer}
 use Rattle.halfbits.specs.Frame.{Frame, bytesOf, AreBytes}
 use Rattle.halfbits.specs.Encoding.{isBitCount, frameOf, encodedOf}
+use Rattle.machine.specs.declared.BusState.the-variants as bus
+use Rattle.fsm.specs.declared.DaliBitbangPhy.{DaliBitbangPhy}
 use Rattle.fsm.specs.declared.TxPollResult.{TxPollResult}
-use Rattle.fsm.specs.Polling.{polled}
-use Rattle.fsm.specs.Calls.{tookIdle, tookRx}
 use Rattle.bench_line.specs.declared.BenchLine.{BenchLine}
 use Rattle.bench_line.specs.declared.LineStarted.{LineStarted}
-use Rattle.bench_line.specs.declared.LinePoll.the-variants as poll
+use Rattle.bench_line.specs.declared.LinePoll.the-variants as polled
 use Rattle.bench_line.specs.declared.LineTold.the-variants as told
 use Rattle.bench_line.specs.Line.{stationsOn, stationAt, lineTicked}
-use Rattle.bench_line.specs.Calls.{startedAt, polledAt, tookIdleAt, tookRxAt}
-use Rattle.reached.specs.Ticks.{IsIdle}
+use Rattle.bench_line.specs.Calls.{startedAt}
+use Rattle.reached.specs.Ticks.{IsIdle, IsSending}
 use Rattle.frames.specs.Sends.{Start, startedBy}
 use Rattle.frames.specs.ReadAs.{ReadAs}
+use Rattle.line_theorems.specs.Reached.{pollOn, takeIdleOn, takeRxOn, lineAfter, poll, take-idle, take-rx}
 
 -- ---- the line
 -- after so many ticks and no other call
@@ -53,16 +55,44 @@ pub record IsSender (l : BenchLine) (a : Sender) : Type 0 where
 abbrev pub startedOn : BenchLine → Sender → LineStarted
 startedOn l a = startedAt l (a .number) (startedBy (a .by) (stationAt l (a .number)) (bufferIn a))
 
+-- ---- a break
+abbrev pub IsBreaking : DaliBitbangPhy → Type 0
+IsBreaking s = s .core .bus .«bus_state» ≡ bus.CollisionTx
+
+-- A sender sends up to the clash. From there on it is in its break, and fourteen ticks later it samples the line, finds this level, and is
+-- Idle.
+pub record Breaks (l : BenchLine) (number clash : ℕ) (found : Bool) : Type 0 where
+  pub sends : (tick : ℕ) → tick < clash → IsSending (stationAt (ticksOn tick l) number)
+  pub breaks : (tick : ℕ) → clash ≤ tick → tick < clash + 14 → IsBreaking (stationAt (ticksOn tick l) number)
+  pub left : ticksOn (clash + 13) l .level ≡ found
+  pub idle : IsIdle (stationAt (ticksOn (clash + 14) l) number)
+  pub mark : stationAt (ticksOn (clash + 14) l) number .core .told .«tx_idle_after_break» ≡ found
+
+-- By this tick the break is over, and the line sampled.
+abbrev pub BreaksBy : ℕ → BenchLine → ℕ → Bool → Type 0
+BreaksBy last l number found = (clash : ℕ) × (clash + 14 ≤ last) × Breaks l number clash found
+
 -- ---- what a station then tells
 -- its event can be taken, and is read as the frame: kind and bytes, at phase 0
 abbrev pub HoldsFrame : Frame → ℕ → BenchLine → Type 0
-HoldsFrame frame number l =
-    let took = tookRxAt l number (tookRx (stationAt l number .core .told .«rx_state») (stationAt l number)) in
-    (took .answer ≡ told.Told true) × ReadAs frame (took .event)
+HoldsFrame frame number l = (takeRxOn l number .answer ≡ told.Told true) × ReadAs frame (takeRxOn l number .event)
 
 abbrev pub Polls : TxPollResult → ℕ → BenchLine → Type 0
-Polls answer number l = polledAt l number (polled (stationAt l number)) .answer ≡ poll.Told answer
+Polls answer number l = pollOn l number .answer ≡ polled.Told answer
 
 -- whether it found the line idle after its break
 abbrev pub FindsIdle : Bool → ℕ → BenchLine → Type 0
-FindsIdle idle number l = tookIdleAt l number (tookIdle (stationAt l number)) .answer ≡ told.Told idle
+FindsIdle idle number l = takeIdleOn l number .answer ≡ told.Told idle
+
+-- ---- calls in a row, each on the line that the one before left
+-- a call of a station, and its answer
+pub data Answer : Type 0 where
+  polls : (number : ℕ) → TxPollResult → Answer
+  finds-idle : (number : ℕ) → Bool → Answer
+  holds-frame : (number : ℕ) → Frame → Answer
+
+unfoldable pub InARow : List Answer → BenchLine → Type 0
+InARow [] l = Unit {0}
+InARow (polls number answer ∷ more) l = Polls answer number l × InARow more (lineAfter (poll number) l)
+InARow (finds-idle number idle ∷ more) l = FindsIdle idle number l × InARow more (lineAfter (take-idle number) l)
+InARow (holds-frame number frame ∷ more) l = HoldsFrame frame number l × InARow more (lineAfter (take-rx number) l)
