@@ -25,7 +25,7 @@ use Rattle.frames.proofs.Waving.{lowIn, lowIn-bounds, lastLow, last-falls, afte
 use Rattle.frames.proofs.Framing.{wave-to-frame}
 use Rattle.line_theorems.specs.Reached.{ReachedLine}
 use Rattle.line_theorems.specs.OnLine.{ticksOn, AllIdle}
-use Rattle.line_theorems.specs.LoneSender.{completeAt}
+use Rattle.line_theorems.specs.LoneSender.{lastPull, completeAt}
 use Rattle.line_theorems.proofs.Lines.{line-invariants}
 use Rattle.line_theorems.proofs.Hearing.{levels, ticks-reached, same-count, on-line, heard-more, heard-same, heard-reached, quiet}
 use Rattle.line_theorems.proofs.AsOne.{Drives, heard-as-one, hears-itself}
@@ -52,14 +52,18 @@ module _ (bits : List Bool) where
           let e : t ≡ 4 + (t - 4) = omega (arith, late) in
           ap (λ n. drives (alone n s)) e ∙ sends .wave (t - 4) ∙ sym (wave-level (t - 4)) ∙ ap (sentLevel bits) (sym e)
 
-  -- sixteen high ticks after the last low one, the wave has been heard whole
-  complete-is : completeAt bits ≡ lastLow bits + 21
+  -- the last half-bit that pulls low ends with the last low tick
+  last-pull : 4 * lastPull bits + 3 ≡ lastLow bits
   unfolding pick
-  complete-is = go (bitOf bits (length bits))
+  last-pull = go (bitOf bits (length bits))
     where
-      go : (b : Bool) → 24 + 4 * pick b (2 * length bits) (2 * length bits + 1) ≡ 8 * length bits + lowIn b + 21
+      go : (b : Bool) → 4 * pick b (2 * length bits) (2 * length bits + 1) + 3 ≡ 8 * length bits + lowIn b
       go true = omega arith
       go false = omega arith
+
+  -- sixteen high ticks later the wave has been heard whole
+  complete-is : completeAt bits ≡ lastLow bits + 21
+  complete-is = omega (arith, last-pull)
 
   pub last-complete : completeAt bits ≤ 8 * length bits + 28
   last-complete = omega (arith, complete-is, lowIn-bounds (bitOf bits (length bits)))

@@ -26,7 +26,8 @@ KeepsOk number l = (calls : List LineCall) → StartNothing calls → Polls Ok n
 -- A clash is told by the first poll and by no later one, and what the break found by the first take and by no later one.
 pub record KeepsClash (found : Bool) (number : ℕ) (l : BenchLine) : Type 0 where
   pub knows : (calls : List LineCall) → StartNothing calls → Without (poll number) calls → Polls Collision number (lineAfterAll calls l)
-  pub knows-once : (calls : List LineCall) → StartNothing calls → KeepsOk number (lineAfter (poll number) (lineAfterAll calls l))
+  pub knows-once : (calls : List LineCall) → StartNothing calls → (more : List LineCall) → StartNothing more
+      → Polls Ok number (lineAfterAll more (lineAfter (poll number) (lineAfterAll calls l)))
   pub finds : (calls : List LineCall) → StartNothing calls → Without (take-idle number) calls → FindsIdle found number (lineAfterAll calls l)
   pub finds-once : (calls : List LineCall) → StartNothing calls → (more : List LineCall) → StartNothing more
       → FindsIdle false number (lineAfterAll more (lineAfter (take-idle number) (lineAfterAll calls l)))
