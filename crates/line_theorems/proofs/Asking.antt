@@ -38,6 +38,10 @@ use Rattle.line_theorems.specs.OnLine.{AllIdle}
 use Rattle.line_theorems.proofs.Lines.{line-invariants}
 use Rattle.line_theorems.proofs.Hearing.{tick-at, left-if-all-high, listener-drives, Settles, settles-next, settles-later, settles-hears, settled-idle}
 
+-- two calls that are not one call
+pub distinct : _≡_ {A = ℕ} 0 1 → ⊥
+distinct e = omega (arith, e)
+
 -- ---- a station that is asked, or whose policy is set
 -- Its line and its runs stay as they are, and so does all that it tells but what the call tells.
 pub record Kept (k : Call) (s s′ : DaliBitbangPhy) : Type 0 where
@@ -50,20 +54,23 @@ pub record Kept (k : Call) (s s′ : DaliBitbangPhy) : Type 0 where
   pub event : (k ≡ station.take-rx → ⊥) → (k ≡ station.acknowledge → ⊥) → s′ .core .told .«rx_state» ≡ s .core .told .«rx_state»
 
 module _ (s : DaliBitbangPhy) where
+  as-it-was : (k : Call) → Kept k s s
+  as-it-was k = record { bus = refl; runs = refl; last = refl; collisions = λ _. refl; yields = λ _. refl; marked = λ _. refl; event = λ _ _. refl }
+
   poll-keeps : Kept station.poll s (polled s .station)
   unfolding polled
   poll-keeps =
       let P : Polled → Type 0 = λ (x : Polled). Kept station.poll s (x .station) in
-      let all : Kept station.poll s s = record { bus = refl; runs = refl; last = refl; collisions = λ _. refl; yields = λ _. refl; marked = λ _. refl; event = λ _ _. refl } in
       cases P (s .core .told .«tx_yielded»)
-      (λ _. record { bus = refl; runs = refl; last = refl; collisions = λ no. absurd (no refl); yields = λ no. absurd (no refl); marked = λ _. refl; event = λ _ _. refl })
-      (λ _. cases P (eqb (s .core .told .«tx_collision») 0) (λ _. cases P (isTx (s .core .bus .«bus_state»)) (λ _. all) (λ _. all))
-      (λ _. record { bus = refl; runs = refl; last = refl; collisions = λ no. absurd (no refl); yields = λ no. absurd (no refl); marked = λ _. refl; event = λ _ _. refl }))
+      (λ _. record { bus = refl; runs = refl; last = refl; collisions = λ other. absurd (other refl); yields = λ other. absurd (other refl); marked = λ _. refl; event = λ _ _. refl })
+      (λ _. cases P (eqb (s .core .told .«tx_collision») 0) (λ _. cases P (isTx (s .core .bus .«bus_state»)) (λ _. as-it-was station.poll) (λ _. as-it-was station.poll))
+      (λ _. record { bus = refl; runs = refl; last = refl; collisions = λ other. absurd (other refl); yields = λ other. absurd (other refl); marked = λ _. refl; event = λ _ _. refl }))
 
-  acknowledge-keeps : (k : Call) → (((k ≡ station.take-rx → ⊥) → (k ≡ station.acknowledge → ⊥) → ⊥)) → (mark : RxState) → Kept k s (acknowledged mark s)
+  -- by the call of that name, or by a take
+  acknowledge-keeps : (k : Call) → ((k ≡ station.take-rx → ⊥) → (k ≡ station.acknowledge → ⊥) → ⊥) → (mark : RxState) → Kept k s (acknowledged mark s)
   unfolding acknowledged
-  acknowledge-keeps k is Empty = record { bus = refl; runs = refl; last = refl; collisions = λ _. refl; yields = λ _. refl; marked = λ _. refl; event = λ _ _. refl }
-  acknowledge-keeps k is Receiving = record { bus = refl; runs = refl; last = refl; collisions = λ _. refl; yields = λ _. refl; marked = λ _. refl; event = λ _ _. refl }
+  acknowledge-keeps k is Empty = as-it-was k
+  acknowledge-keeps k is Receiving = as-it-was k
   acknowledge-keeps k is Completed = record {
     bus = refl;
     runs = refl;
@@ -71,7 +78,7 @@ module _ (s : DaliBitbangPhy) where
     collisions = λ _. refl;
     yields = λ _. refl;
     marked = λ _. refl;
-    event = λ no neither. absurd (is no neither);
+    event = λ not-taken not-acknowledged. absurd (is not-taken not-acknowledged);
   }
 
   take-is : (mark : RxState) → tookRx mark s .station ≡ acknowledged mark s
@@ -92,11 +99,11 @@ module _ (s : DaliBitbangPhy) where
     last = refl;
     collisions = λ _. refl;
     yields = λ _. refl;
-    marked = λ no. absurd (no refl);
+    marked = λ other. absurd (other refl);
     event = λ _ _. refl;
   }
-  kept station.take-rx e = rw take-is (acknowledge-keeps station.take-rx (λ no _. no refl) (s .core .told .«rx_state»))
-  kept station.acknowledge e = acknowledge-keeps station.acknowledge (λ _ no. no refl) (s .core .told .«rx_state»)
+  kept station.take-rx e = rw take-is (acknowledge-keeps station.take-rx (λ other _. other refl) (s .core .told .«rx_state»))
+  kept station.acknowledge e = acknowledge-keeps station.acknowledge (λ _ other. other refl) (s .core .told .«rx_state»)
   kept (station.policy p) e = record { bus = refl; runs = refl; last = refl; collisions = λ _. refl; yields = λ _. refl; marked = λ _. refl; event = λ _ _. refl }
 
 -- ---- a station of a line of which some station is called
@@ -267,8 +274,3 @@ settling l reached idle = record { reached = reached; settles = λ n on. inl (id
 
 pub idle-next : (l : BenchLine) → ReachedLine l → AllIdle l → (c : LineCall) → startsNothing c ≡ true → AllIdle (lineAfter c l)
 idle-next l reached idle c none = settled-line _ (any-settles 0 l (settling l reached idle) c none)
-
-pub idle-stays : (calls : List LineCall) → StartNothing calls → (l : BenchLine) → ReachedLine l → AllIdle l → AllIdle (lineAfterAll calls l)
-idle-stays calls nothing l reached idle =
-    let e : 0 - ticksIn calls ≡ 0 = omega arith in
-    settled-line _ (subst (λ n. Settling n (lineAfterAll calls l)) e (all-settle calls nothing 0 l (settling l reached idle)))

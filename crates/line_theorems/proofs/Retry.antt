@@ -11,7 +11,7 @@ use Rattle.line_theorems.specs.Reached.{LineCall, ReachedLine, lineAfter
 use Rattle.line_theorems.specs.OnLine.{ticksOn, AllIdle, Sender, IsSender}
 use Rattle.line_theorems.specs.LoneSender.{Alone}
 use Rattle.line_theorems.specs.TwoSenders.{Pair, bothOn}
-use Rattle.line_theorems.specs.Retry.{again, Retries, Retry}
+use Rattle.line_theorems.specs.Retry.{again, CanRetry, Retries, Retry}
 use Rattle.line_theorems.proofs.Hearing.{same-count}
 use Rattle.line_theorems.proofs.Asking.{count-kept, Settling, all-settle, settled-line}
 use Rattle.line_theorems.proofs.LoneSender.{lone-sender}
@@ -37,18 +37,23 @@ module _ (l : BenchLine) (reached : ReachedLine l) (idle : AllIdle l) (a b : Sen
           let none : 231 - ticks - ticksIn calls ≡ 0 = omega (arith, idle-by) in
           subst (λ n. Settling n now) none (all-settle calls nothing (231 - ticks) (ticksOn ticks (bothOn l a b)) (won .settled-so .settles ticks late))
 
+      all-idle : AllIdle now
+      all-idle = settled-line now settled-now
+
       alone : (by : Start) → Alone now (again winner by)
       alone by =
-          lone-sender now (settled-now .reached) (settled-line now settled-now) (again winner by)
+          lone-sender now (settled-now .reached) all-idle (again winner by)
           (record { on = omega (arith, is .on, all-on); counts = is .counts; are-bytes = is .are-bytes })
 
+      can-retry : CanRetry now winner loser
+      can-retry = record {
+        idle = all-idle;
+        alone = alone;
+        loser-hears = λ by more long. alone by .heard more long (loser .number) (omega (arith, loser-on, all-on)) (λ e. apart (sym e));
+      }
+
     retries : Retries (bothOn l a b) winner loser j
-    retries = record {
-      clashed = clashed l reached idle a b pair apart won;
-      alone = alone;
-      loser-hears = λ ticks late calls nothing idle-by by more long.
-          alone ticks late calls nothing idle-by by .heard more long (loser .number) (omega (arith, loser-on, all-on ticks late calls nothing idle-by)) (λ e. apart (sym e));
-    }
+    retries = record { clashed = clashed l reached idle a b pair apart won; can-retry = can-retry }
 
 pub retry : Retry
 retry l reached idle a b pair different =

@@ -33,16 +33,14 @@ use Rattle.line_theorems.specs.OnLine.{frameIn, HoldsFrame, Polls, ticks
 use Rattle.line_theorems.specs.LoneSender.{Alone, completeAt}
 use Rattle.line_theorems.specs.TwoSenders.{Watches, Pair, bothOn, Agreed, pullsIn, FirstDifference, Clashed}
 use Rattle.line_theorems.specs.Clash.{clashAt}
-use Rattle.line_theorems.specs.Retry.{again, Retries}
+use Rattle.line_theorems.specs.Retry.{CanRetry, Retries}
 use Rattle.line_theorems.proofs.Lines.{line-invariants}
 use Rattle.line_theorems.proofs.Hearing.{ticks-reached, same-count}
+use Rattle.line_theorems.proofs.Asking.{distinct}
 use Rattle.line_theorems.proofs.Starting.{same-stations, reached-on}
 use Rattle.line_theorems.proofs.LoneSender.{lone-sender, lone-sender-from, lone-sender-in-any-order}
 use Rattle.line_theorems.proofs.TwoSenders.{both-started, equal-frames, equal-frames-in-any-order, first-difference, different-frames, different-frames-in-any-order, clash-ticks}
 use Rattle.line_theorems.proofs.Retry.{retry}
-
-differ : _≡_ {A = ℕ} 0 1 → ⊥
-differ e = omega (arith, e)
 
 -- ---- a new line
 new-station-at : (count n : ℕ) → stationAt (newLine count) n ≡ newStation
@@ -345,13 +343,13 @@ module _ (x y : ℕ) (h : x < 256) (k : y < 256) (u v w : ℕ) (p : u < 256) (q 
 
   leaves-poll : Without (poll 0) before
   unfolding Each
-  leaves-poll = (λ e. differ (cc), (λ e. differ (cc), (λ e. differ (cc), (λ e. differ (cc), (λ e. differ (cc), tt)))))
+  leaves-poll = (λ e. distinct (cc), (λ e. distinct (cc), (λ e. distinct (cc), (λ e. distinct (cc), (λ e. distinct (cc), tt)))))
 
   leaves-take : Without (take-rx 3) before × Without (acknowledge 3) before
   unfolding Each
   leaves-take = (
-    (λ e. differ (cc), (λ e. differ (cc), (λ e. differ (cc), (λ e. differ (cc), (λ e. differ (cc), tt))))),
-    (λ e. differ (cc), (λ e. differ (cc), (λ e. differ (cc), (λ e. differ (cc), (λ e. differ (cc), tt))))),
+    (λ e. distinct (cc), (λ e. distinct (cc), (λ e. distinct (cc), (λ e. distinct (cc), (λ e. distinct (cc), tt))))),
+    (λ e. distinct (cc), (λ e. distinct (cc), (λ e. distinct (cc), (λ e. distinct (cc), (λ e. distinct (cc), tt))))),
   )
 
   pub zero-still-knows : Polls Collision 0 (lineAfterAll before (ticksOn 230 (bothOn old-line one short)))
@@ -382,7 +380,7 @@ module _ (x y : ℕ) (h : x < 256) (k : y < 256) (u v w : ℕ) (p : u < 256) (q 
   unfolding ticksIn isTick pick
   asked-ticks = omega arith
 
-  pub old-line-retries : let now = lineAfterAll asked (ticksOn 230 (bothOn old-line one short)) in Alone now (again one by) ⊎ Alone now (again short by)
+  pub old-line-retries : let now = lineAfterAll asked (ticksOn 230 (bothOn old-line one short)) in CanRetry now one short ⊎ CanRetry now short one
   old-line-retries =
       let (j, who) = retry old-line old-reached old-idle one short short-pair other-frames in
-      ⊎-elim (λ r. inl (r .alone 230 (omega arith) asked asked-starts-nothing asked-ticks by)) (λ r. inr (r .alone 230 (omega arith) asked asked-starts-nothing asked-ticks by)) who
+      ⊎-elim (λ r. inl (r .can-retry 230 (omega arith) asked asked-starts-nothing asked-ticks)) (λ r. inr (r .can-retry 230 (omega arith) asked asked-starts-nothing asked-ticks)) who

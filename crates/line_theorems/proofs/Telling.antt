@@ -1,6 +1,5 @@
 -- What stations have to tell, and how long they keep it: through ticks, and through calls that start nothing. Assumes nothing.
 use Prim.Native.Nat.{ℕ}
-use native.Mathlib.Omega.{arith}
 use mathlib.Core.Bool.{Bool, true, false, false≢true}
 use mathlib.Core.List.{List}
 use mathlib.Core.Path.{_≡_, refl, sym, _∙_, ap, subst}
@@ -36,21 +35,28 @@ use Rattle.line_theorems.specs.Reached.{LineCall, poll, take-idle, take-
 use Rattle.line_theorems.specs.OnLine.{AllIdle, Polls, FindsIdle, HoldsFrame}
 use Rattle.line_theorems.specs.AnyOrder.{KeepsFrame, KeepsOk, KeepsClash}
 use Rattle.line_theorems.proofs.Hearing.{Listens, tick-keeps}
-use Rattle.line_theorems.proofs.Asking.{kept, lineCall, stays, polled-here, taken-here, all-keep, each-both, Any, each-any, On, still-on, on-keeps, settling, stays-high, idle-next}
+use Rattle.line_theorems.proofs.Asking.{distinct, kept, lineCall, stays, polled-here, taken-here, all-keep, each-both, Any, each-any, On, still-on, on-keeps, settling, stays-high, idle-next}
 use Rattle.line_theorems.proofs.Starting.{tells-frame, tells-poll, tells-idle}
 
 abbrev Hears : DaliBitbangPhy → Type 0
 Hears s = hears (s .core .bus .«bus_state») ≡ true
 
+not-sending : (state : BusState) → hears state ≡ true → isTx state ≡ false
+unfolding hears isTx
+not-sending bus.Idle e = refl
+not-sending bus.Rx e = refl
+not-sending bus.Tx e = absurd (false≢true e)
+not-sending bus.CollisionTx e = refl
+
 -- ---- a clash, or none
 -- A station that hears, and did not yield.
-pub record Kind (s : DaliBitbangPhy) : Type 0 where
+pub record Unyielded (s : DaliBitbangPhy) : Type 0 where
   pub hearing : hears (s .core .bus .«bus_state») ≡ true
   pub yields : s .core .told .«tx_yielded» ≡ false
 
 -- so many clashes to tell
 pub record Clashes (many : ℕ) (s : DaliBitbangPhy) : Type 0 where
-  pub kind : Kind s
+  pub unyielded : Unyielded s
   pub collisions : s .core .told .«tx_collision» ≡ many
 
 -- what the break found
@@ -60,13 +66,13 @@ pub record Marked (found : Bool) (s : DaliBitbangPhy) : Type 0 where
 
 module _ (s : DaliBitbangPhy) where
   module _ (level : Bool) where
-    kind-ticks : Kind s → Kind (tickOf s level)
-    kind-ticks h = let k = tick-keeps s level (h .hearing) in record { hearing = k .hearing; yields = ap (λ (told : Told). told .«tx_yielded») (k .told) ∙ h .yields }
+    unyielded-ticks : Unyielded s → Unyielded (tickOf s level)
+    unyielded-ticks h = let k = tick-keeps s level (h .hearing) in record { hearing = k .hearing; yields = ap (λ (told : Told). told .«tx_yielded») (k .told) ∙ h .yields }
 
     clashes-tick : {many : ℕ} → Clashes many s → Clashes many (tickOf s level)
     clashes-tick h = record {
-      kind = kind-ticks (h .kind);
-      collisions = ap (λ (told : Told). told .«tx_collision») (tick-keeps s level (h .kind .hearing) .told) ∙ h .collisions;
+      unyielded = unyielded-ticks (h .unyielded);
+      collisions = ap (λ (told : Told). told .«tx_collision») (tick-keeps s level (h .unyielded .hearing) .told) ∙ h .collisions;
     }
 
     marked-ticks : {found : Bool} → Marked found s → Marked found (tickOf s level)
@@ -80,7 +86,7 @@ module _ (s : DaliBitbangPhy) where
 
     clashes-stay : {many : ℕ} → (k ≡ station.poll → ⊥) → Clashes many s → Clashes many (after k s)
     clashes-stay other h = record {
-      kind = record { hearing = hearing-stays (h .kind .hearing); yields = kept s k between .yields other ∙ h .kind .yields };
+      unyielded = record { hearing = hearing-stays (h .unyielded .hearing); yields = kept s k between .yields other ∙ h .unyielded .yields };
       collisions = kept s k between .collisions other ∙ h .collisions;
     }
 
@@ -90,69 +96,62 @@ module _ (s : DaliBitbangPhy) where
   -- A poll tells it.
   says-collision : Clashes 1 s → polled s .answer ≡ Collision
   unfolding polled pick
-  says-collision h = rw (h .kind .yields, h .collisions)
-
-  not-sending : (state : BusState) → hears state ≡ true → isTx state ≡ false
-  unfolding hears isTx
-  not-sending bus.Idle e = refl
-  not-sending bus.Rx e = refl
-  not-sending bus.Tx e = absurd (false≢true e)
-  not-sending bus.CollisionTx e = refl
+  says-collision h = rw (h .unyielded .yields, h .collisions)
 
   says-ok : Clashes 0 s → polled s .answer ≡ Ok
   unfolding polled pick
-  says-ok h = rw (h .kind .yields, h .collisions, not-sending (s .core .bus .«bus_state») (h .kind .hearing))
+  says-ok h = rw (h .unyielded .yields, h .collisions, not-sending (s .core .bus .«bus_state») (h .unyielded .hearing))
 
   -- and clears it
-  clears : Kind s → Clashes 0 (polled s .station)
+  clears : Unyielded s → Clashes 0 (polled s .station)
   unfolding polled
   clears h =
       let P : Polled → Type 0 = λ (x : Polled). Clashes 0 (x .station) in
       cases P (s .core .told .«tx_yielded») (λ e. absurd (false≢true (sym (h .yields) ∙ e)))
       (λ _. cases P (eqb (s .core .told .«tx_collision») 0)
       (λ e.
-      let none : Clashes 0 s = record { kind = h; collisions = eqb-true (s .core .told .«tx_collision») 0 e } in
+      let none : Clashes 0 s = record { unyielded = h; collisions = eqb-true (s .core .told .«tx_collision») 0 e } in
       cases P (isTx (s .core .bus .«bus_state»)) (λ _. none) (λ _. none))
-      (λ _. record { kind = record { hearing = h .hearing; yields = h .yields }; collisions = refl }))
+      (λ _. record { unyielded = record { hearing = h .hearing; yields = h .yields }; collisions = refl }))
 
   -- A frame that was sent leaves nothing to tell.
   pub nothing-to-tell : IsIdle s → polled s .answer ≡ Ok → Clashes 0 s
   unfolding polled hears
   nothing-to-tell idle =
       let P : Polled → Type 0 = λ (x : Polled). x .answer ≡ Ok → Clashes 0 s in
-      cases P (s .core .told .«tx_yielded») (λ _ e. absurd (let none : _≡_ {A = ℕ} 0 1 = cc in omega (arith, none)))
+      cases P (s .core .told .«tx_yielded») (λ _ e. absurd (distinct (cc)))
       (λ y. cases P (eqb (s .core .told .«tx_collision») 0)
-      (λ c _. record { kind = record { hearing = ap hears idle; yields = y }; collisions = eqb-true (s .core .told .«tx_collision») 0 c })
-      (λ _ e. absurd (let none : _≡_ {A = ℕ} 0 1 = cc in omega (arith, none))))
+      (λ c _. record { unyielded = record { hearing = ap hears idle; yields = y }; collisions = eqb-true (s .core .told .«tx_collision») 0 c })
+      (λ _ e. absurd (distinct (cc))))
 
 -- ---- whatever the station is asked
 is-poll : (k : Call) → Dec (k ≡ station.poll)
-is-poll (station.tick high) = no (λ e. let none : _≡_ {A = ℕ} 0 1 = cc in omega (arith, none))
-is-poll (station.start-tx hb) = no (λ e. let none : _≡_ {A = ℕ} 0 1 = cc in omega (arith, none))
-is-poll (station.start-answer hb) = no (λ e. let none : _≡_ {A = ℕ} 0 1 = cc in omega (arith, none))
+is-poll (station.tick high) = no (λ e. distinct (cc))
+is-poll (station.start-tx hb) = no (λ e. distinct (cc))
+is-poll (station.start-answer hb) = no (λ e. distinct (cc))
 is-poll station.poll = yes refl
-is-poll station.take-idle = no (λ e. let none : _≡_ {A = ℕ} 0 1 = cc in omega (arith, none))
-is-poll station.take-rx = no (λ e. let none : _≡_ {A = ℕ} 0 1 = cc in omega (arith, none))
-is-poll station.acknowledge = no (λ e. let none : _≡_ {A = ℕ} 0 1 = cc in omega (arith, none))
-is-poll (station.policy p) = no (λ e. let none : _≡_ {A = ℕ} 0 1 = cc in omega (arith, none))
+is-poll station.take-idle = no (λ e. distinct (cc))
+is-poll station.take-rx = no (λ e. distinct (cc))
+is-poll station.acknowledge = no (λ e. distinct (cc))
+is-poll (station.policy p) = no (λ e. distinct (cc))
 
 is-take : (k : Call) → Dec (k ≡ station.take-idle)
-is-take (station.tick high) = no (λ e. let none : _≡_ {A = ℕ} 0 1 = cc in omega (arith, none))
-is-take (station.start-tx hb) = no (λ e. let none : _≡_ {A = ℕ} 0 1 = cc in omega (arith, none))
-is-take (station.start-answer hb) = no (λ e. let none : _≡_ {A = ℕ} 0 1 = cc in omega (arith, none))
-is-take station.poll = no (λ e. let none : _≡_ {A = ℕ} 0 1 = cc in omega (arith, none))
+is-take (station.tick high) = no (λ e. distinct (cc))
+is-take (station.start-tx hb) = no (λ e. distinct (cc))
+is-take (station.start-answer hb) = no (λ e. distinct (cc))
+is-take station.poll = no (λ e. distinct (cc))
 is-take station.take-idle = yes refl
-is-take station.take-rx = no (λ e. let none : _≡_ {A = ℕ} 0 1 = cc in omega (arith, none))
-is-take station.acknowledge = no (λ e. let none : _≡_ {A = ℕ} 0 1 = cc in omega (arith, none))
-is-take (station.policy p) = no (λ e. let none : _≡_ {A = ℕ} 0 1 = cc in omega (arith, none))
+is-take station.take-rx = no (λ e. distinct (cc))
+is-take station.acknowledge = no (λ e. distinct (cc))
+is-take (station.policy p) = no (λ e. distinct (cc))
 
 module _ (s : DaliBitbangPhy) (k : Call) (between : isBetween k ≡ true) where
-  kind-stays : Kind s → Kind (after k s)
+  unyielded-stays : Unyielded s → Unyielded (after k s)
   unfolding after
-  kind-stays h = go (is-poll k)
+  unyielded-stays h = go (is-poll k)
     where
-      go : Dec (k ≡ station.poll) → Kind (after k s)
-      go (yes e) = rw e (clears s h .kind)
+      go : Dec (k ≡ station.poll) → Unyielded (after k s)
+      go (yes e) = rw e (clears s h .unyielded)
       go (no other) = record { hearing = hearing-stays s k between (h .hearing); yields = kept s k between .yields other ∙ h .yields }
 
   none-stays : Clashes 0 s → Clashes 0 (after k s)
@@ -160,7 +159,7 @@ module _ (s : DaliBitbangPhy) (k : Call) (between : isBetween k ≡ true) where
   none-stays h = go (is-poll k)
     where
       go : Dec (k ≡ station.poll) → Clashes 0 (after k s)
-      go (yes e) = rw e (clears s (h .kind))
+      go (yes e) = rw e (clears s (h .unyielded))
       go (no other) = clashes-stay s k between other h
 
   unmarked-stays : Marked false s → Marked false (after k s)
@@ -188,11 +187,11 @@ module _ (n : ℕ) where
     clashes-on = record {
       reached = o .reached;
       on = o .on;
-      is = record { kind = record { hearing = o .is .hearing; yields = o .is .yields }; collisions = o .is .collisions };
+      is = record { unyielded = record { hearing = o .is .hearing; yields = o .is .yields }; collisions = o .is .collisions };
     }
 
-    kind-on : On n Kind l
-    kind-on = record { reached = o .reached; on = o .on; is = clashes-on .is .kind }
+    unyielded-on : On n Unyielded l
+    unyielded-on = record { reached = o .reached; on = o .on; is = clashes-on .is .unyielded }
 
     marked-on : On n (Marked found) l
     marked-on = record { reached = o .reached; on = o .on; is = record { hearing = o .is .hearing; marked = o .is .marked } }
@@ -210,7 +209,7 @@ module _ (n : ℕ) where
       knows-once : KeepsOk n (lineAfter (poll n) (lineAfterAll calls l))
       knows-once =
           let m = lineAfterAll calls l in
-          let before = on-keeps n Kind Any kind-ticks (λ s k between _ h. kind-stays s k between h) calls nothing (each-any calls) l kind-on in
+          let before = on-keeps n Unyielded Any unyielded-ticks (λ s k between _ h. unyielded-stays s k between h) calls nothing (each-any calls) l unyielded-on in
           keeps-ok (lineAfter (poll n) m)
           (record {
             reached = called (poll n) (before .reached);

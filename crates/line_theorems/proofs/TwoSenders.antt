@@ -30,7 +30,7 @@ use Rattle.line_theorems.specs.Clash.{drivenAt, clashAt, ClashTicks}
 use Rattle.line_theorems.specs.AnyOrder.{EqualFramesInAnyOrder, KeepsClash, DifferentFramesInAnyOrder}
 use Rattle.line_theorems.proofs.Starting.{bitsIn, many-bits, few-bits, fits, buffer-is, same-stations, reached-on, at-other, answers, ready}
 use Rattle.line_theorems.proofs.Hearing.{levels, ticks-reached, same-count, on-line, Listens, Settles, settles-later}
-use Rattle.line_theorems.proofs.Asking.{On, Settling, settled-line}
+use Rattle.line_theorems.proofs.Asking.{distinct, On, Settling, settled-line}
 use Rattle.line_theorems.proofs.Telling.{Clashes, keeps-ok, keeps-clash, Event, keeps-frame}
 use Rattle.line_theorems.proofs.Agreeing.{last-complete, sender-sent, listener-holds, all-rest}
 use Rattle.line_theorems.proofs.Differing.{pulls-in, differ, by-216}
@@ -174,13 +174,13 @@ module _ (l : BenchLine) (reached : ReachedLine l) (idle : AllIdle l) (a b : Sen
 
 -- a poll is none of the takes
 no-take : (m n : ℕ) → poll m ≡ take-idle n → ⊥
-no-take m n e = let none : _≡_ {A = ℕ} 0 1 = cc in omega (arith, none)
+no-take m n e = distinct (cc)
 
 not-taken : (m n : ℕ) → poll m ≡ take-rx n → ⊥
-not-taken m n e = let none : _≡_ {A = ℕ} 0 1 = cc in omega (arith, none)
+not-taken m n e = distinct (cc)
 
 not-acknowledged : (m n : ℕ) → poll m ≡ acknowledge n → ⊥
-not-acknowledged m n e = let none : _≡_ {A = ℕ} 0 1 = cc in omega (arith, none)
+not-acknowledged m n e = distinct (cc)
 
 pub equal-frames-in-any-order : EqualFramesInAnyOrder
 equal-frames-in-any-order l reached idle a b pair equal ticks late = (

@@ -14,15 +14,18 @@ use Rattle.line_theorems.specs.TwoSenders.{Pair, bothOn, Clashed}
 abbrev pub again : Sender → Start → Sender
 again a by = record { number = a .number; by = by; bits = a .bits; first = a .first; second = a .second; third = a .third }
 
--- From tick 230 on both may be asked, in any order, and other calls made that start nothing. From tick 231 on the winner may start: it is a
--- lone sender then, and the loser one of those that hold its frame 230 ticks later.
+-- All are Idle. The winner that starts now is a lone sender, and the loser is one of those that hold its frame 230 ticks later.
+pub record CanRetry (now : BenchLine) (winner loser : Sender) : Type 0 where
+  pub idle : AllIdle now
+  pub alone : (by : Start) → Alone now (again winner by)
+  pub loser-hears : (by : Start) (ticks : ℕ) → 230 ≤ ticks
+      → HoldsFrame (frameIn winner) (loser .number) (ticksOn ticks (startedOn now (again winner by) .line))
+
+-- From tick 230 on both may be asked, and any calls made that start nothing. It is so at every tick from 231 on.
 pub record Retries (l : BenchLine) (winner loser : Sender) (j : ℕ) : Type 0 where
   pub clashed : Clashed l winner loser j
-  pub alone : (ticks : ℕ) → 230 ≤ ticks → (calls : List LineCall) → StartNothing calls → 231 ≤ ticks + ticksIn calls → (by : Start)
-      → Alone (lineAfterAll calls (ticksOn ticks l)) (again winner by)
-  pub loser-hears : (ticks : ℕ) → 230 ≤ ticks → (calls : List LineCall) → StartNothing calls → 231 ≤ ticks + ticksIn calls → (by : Start)
-      → (more : ℕ) → 230 ≤ more
-      → HoldsFrame (frameIn winner) (loser .number) (ticksOn more (startedOn (lineAfterAll calls (ticksOn ticks l)) (again winner by) .line))
+  pub can-retry : (ticks : ℕ) → 230 ≤ ticks → (calls : List LineCall) → StartNothing calls → 231 ≤ ticks + ticksIn calls
+      → CanRetry (lineAfterAll calls (ticksOn ticks l)) winner loser
 
 abbrev pub Retry : Type 0
 Retry =
