@@ -196,9 +196,10 @@ equal-frames l reached idle a b pair equal = record {
       let (one, other, _) = equal-frames-in-any-order l reached idle a b pair equal ticks late in
       (one [] tt, (other (poll (a .number) ∷ []) (refl, tt), tt));
   heard = λ ticks late n on from-a from-b.
-      let (_, _, heard-by) = equal-frames-in-any-order l reached idle a b pair equal ticks late in
-      heard-by n on from-a from-b (poll (a .number) ∷ poll (b .number) ∷ []) (refl, (refl, tt))
-      (not-taken (a .number) n, (not-taken (b .number) n, tt)) (not-acknowledged (a .number) n, (not-acknowledged (b .number) n, tt));
+      let (one, other, listeners) = equal-frames-in-any-order l reached idle a b pair equal ticks late in
+      let held = listeners n on from-a from-b (poll (a .number) ∷ poll (b .number) ∷ []) (refl, (refl, tt))
+      (not-taken (a .number) n, (not-taken (b .number) n, tt)) (not-acknowledged (a .number) n, (not-acknowledged (b .number) n, tt)) in
+      (one [] tt, (other (poll (a .number) ∷ []) (refl, tt), (held, tt)));
   rests = rest l reached idle a b pair equal;
 }
 

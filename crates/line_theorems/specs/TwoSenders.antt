@@ -14,8 +14,8 @@ use Rattle.fsm.specs.declared.TxPollResult.the-variants.{Ok, Collision}
 use Rattle.bench_line.specs.declared.BenchLine.{BenchLine}
 use Rattle.bench_line.specs.declared.LineStart.the-variants as start
 use Rattle.bench_line.specs.Line.{stationsOn, stationAt}
-use Rattle.line_theorems.specs.Reached.{ReachedLine, lineAfter, poll}
-use Rattle.line_theorems.specs.OnLine.{ticksOn, AllIdle, Sender, frameIn, bufferIn, IsSender, startedOn, BreaksBy, HoldsFrame, Answer, polls, finds-idle, InARow}
+use Rattle.line_theorems.specs.Reached.{ReachedLine}
+use Rattle.line_theorems.specs.OnLine.{ticksOn, AllIdle, Sender, frameIn, bufferIn, IsSender, startedOn, BreaksBy, Answer, polls, finds-idle, holds-frame, InARow}
 
 -- ---- the two
 -- A frame of 16 or 24 bits, and policy Auto or On.
@@ -41,12 +41,15 @@ BothStarted =
     → (startedOn l a .answer ≡ start.Told Started) × (startedOn (startedOn l a .line) b .answer ≡ start.Told Started)
 
 -- ---- equal frames
--- From tick 230 on both say that the frame was sent, and then every listener holds it, on the line that the two polls left. All are Idle
--- again.
+-- calls in a row: both say that the frame was sent, and then what more is asked
+abbrev pub sentAnswers : ℕ → ℕ → List Answer → List Answer
+sentAnswers one other more = polls one Ok ∷ polls other Ok ∷ more
+
+-- From tick 230 on both say so, and then every listener holds the frame. All are Idle again.
 pub record Agreed (l : BenchLine) (a b : Sender) : Type 0 where
-  pub sent : (ticks : ℕ) → 230 ≤ ticks → InARow (polls (a .number) Ok ∷ polls (b .number) Ok ∷ []) (ticksOn ticks (bothOn l a b))
+  pub sent : (ticks : ℕ) → 230 ≤ ticks → InARow (sentAnswers (a .number) (b .number) []) (ticksOn ticks (bothOn l a b))
   pub heard : (ticks : ℕ) → 230 ≤ ticks → (listener : ℕ) → listener < stationsOn l → (listener ≡ a .number → ⊥) → (listener ≡ b .number → ⊥)
-      → HoldsFrame (frameIn a) listener (lineAfter (poll (b .number)) (lineAfter (poll (a .number)) (ticksOn ticks (bothOn l a b))))
+      → InARow (sentAnswers (a .number) (b .number) (holds-frame listener (frameIn a) ∷ [])) (ticksOn ticks (bothOn l a b))
   pub rests : (ticks : ℕ) → 230 ≤ ticks → AllIdle (ticksOn ticks (bothOn l a b))
 
 abbrev pub EqualFrames : Type 0
