@@ -1,17 +1,16 @@
--- What the calls of a host leave as it is: of a station, all but its marks and its policy. Assumes nothing.
+-- What the calls of a host leave as it is, those of a list too: of a station all but its marks and its policy, and of its marks some.
+-- Assumes nothing.
 use Prim.Native.Nat.{ℕ, zero, suc}
 use mathlib.Core.Bool.{Bool, true, false, false≢true}
 use mathlib.Core.List.{List, [], _∷_}
 use mathlib.Core.Path.{_≡_, refl, _∙_, ap}
 use lib.Dec.{eqb}
 use Rattle.laws.specs.Pick.{pick}
-use Rattle.laws.proofs.Picked.{on-false, cases}
-use Rattle.halfbits.specs.declared.HalfBitBuffer.{HalfBitBuffer}
+use Rattle.laws.proofs.Picked.{cases}
 use Rattle.machine.specs.declared.BusState.the-variants as bus
 use Rattle.machine.specs.declared.RxState.{RxState}
 use Rattle.machine.specs.declared.RxState.the-variants.{Empty, Receiving, Completed}
 use Rattle.fsm.specs.declared.DaliBitbangPhy.{DaliBitbangPhy}
-use Rattle.fsm.specs.declared.Started.{Started}
 use Rattle.fsm.specs.declared.Polled.{Polled}
 use Rattle.fsm.specs.Ticking.{tickOf}
 use Rattle.fsm.specs.Starting.{isIdle, hears, startTx, startAnswer}
@@ -19,31 +18,9 @@ use Rattle.fsm.specs.Polling.{isTx, polled}
 use Rattle.fsm.specs.Calls.{withPolicy, tookIdle, acknowledged, tookRx}
 use Rattle.reached.specs.Calls.{Call, tick, start-tx, start-answer, poll, take-idle, take-rx, acknowledge, policy, after, afterAll, isBetween}
 use Rattle.reached.specs.Ticks.{IsSending, drives, heard, alone}
+use Rattle.reached.proofs.Between.{Same, itself, then, between-same, tx-refused, answer-refused, refused-keeps}
 use Rattle.frames.specs.Hosts.{heardAmid, aloneAmid, Each, keepsTx, keepsRx, keepsCapture}
 use Rattle.frames.specs.Amid.{noCalls, NoCalls}
-
--- ---- one station and another
--- the two differ at most in their runs, their marks and their policy
-pub record Kept (s t : DaliBitbangPhy) : Type 0 where
-  pub bus : t .core .bus ≡ s .core .bus
-  pub rx : t .core .rx ≡ s .core .rx
-  pub tx : t .core .tx ≡ s .core .tx
-  pub bytes : t .«rx_data» ≡ s .«rx_data»
-  pub store : t .«tx_hb» ≡ s .«tx_hb»
-  pub last : t .«last_rx» ≡ s .«last_rx»
-
-same : (s : DaliBitbangPhy) → Kept s s
-same s = record { bus = refl; rx = refl; tx = refl; bytes = refl; store = refl; last = refl }
-
-on : {s t u : DaliBitbangPhy} → Kept s t → Kept t u → Kept s u
-on k l = record {
-  bus = l .bus ∙ k .bus;
-  rx = l .rx ∙ k .rx;
-  tx = l .tx ∙ k .tx;
-  bytes = l .bytes ∙ k .bytes;
-  store = l .store ∙ k .store;
-  last = l .last ∙ k .last;
-}
 
 -- no clash and no yield is to be told
 abbrev pub Clear : DaliBitbangPhy → Type 0
@@ -54,37 +31,6 @@ markOf s = s .core .told .«rx_state»
 
 -- ---- one call
 module _ (s : DaliBitbangPhy) where
-  poll-kept : Kept s (polled s .station)
-  unfolding polled
-  poll-kept =
-      let P : Polled → Type 0 = λ (x : Polled). Kept s (x .station) in
-      cases P (s .core .told .«tx_yielded») (λ _. record { bus = refl; rx = refl; tx = refl; bytes = refl; store = refl; last = refl })
-      (λ _. cases P (eqb (s .core .told .«tx_collision») 0) (λ _. cases P (isTx (s .core .bus .«bus_state»)) (λ _. same s) (λ _. same s))
-      (λ _. record { bus = refl; rx = refl; tx = refl; bytes = refl; store = refl; last = refl }))
-
-  acknowledge-kept : (mark : RxState) → Kept s (acknowledged mark s)
-  unfolding acknowledged
-  acknowledge-kept Empty = same s
-  acknowledge-kept Receiving = same s
-  acknowledge-kept Completed = record { bus = refl; rx = refl; tx = refl; bytes = refl; store = refl; last = refl }
-
-  take-kept : (mark : RxState) → Kept s (tookRx mark s .station)
-  unfolding tookRx
-  take-kept Empty = same s
-  take-kept Receiving = same s
-  take-kept Completed = acknowledge-kept Completed
-
-  kept : (c : Call) → isBetween c ≡ true → Kept s (after c s)
-  unfolding after isBetween tookIdle withPolicy
-  kept (tick high) b = absurd (false≢true b)
-  kept (start-tx hb) b = absurd (false≢true b)
-  kept (start-answer hb) b = absurd (false≢true b)
-  kept poll b = poll-kept
-  kept take-idle b = record { bus = refl; rx = refl; tx = refl; bytes = refl; store = refl; last = refl }
-  kept take-rx b = take-kept (markOf s)
-  kept acknowledge b = acknowledge-kept (markOf s)
-  kept (policy p) b = record { bus = refl; rx = refl; tx = refl; bytes = refl; store = refl; last = refl }
-
   -- nothing to tell
   polled-clear : Clear s → Clear (polled s .station)
   unfolding polled pick
@@ -133,39 +79,33 @@ module _ (s : DaliBitbangPhy) where
   same-mark acknowledge b = absurd (false≢true b)
   same-mark (policy p) b = refl
 
-  -- a start that is refused
-  refused-tx : isIdle (s .core .bus .«bus_state») ≡ false → (hb : HalfBitBuffer) → startTx s hb .station ≡ s
-  unfolding startTx
-  refused-tx busy hb = ap (λ (r : Started). r .station) (on-false busy _ _)
-
-  refused-answer : hears (s .core .bus .«bus_state») ≡ false → (hb : HalfBitBuffer) → startAnswer s hb .station ≡ s
-  unfolding startAnswer
-  refused-answer busy hb = ap (λ (r : Started). r .station) (on-false busy _ _)
-
-  -- In Rx start_tx is.
-  still-in-rx : s .core .bus .«bus_state» ≡ bus.Rx → (c : Call) → keepsRx c ≡ true → Kept s (after c s)
+  -- In Rx start_tx is refused.
+  still-in-rx : s .core .bus .«bus_state» ≡ bus.Rx → (c : Call) → keepsRx c ≡ true → Same s (after c s)
   unfolding after keepsRx isBetween isIdle
   still-in-rx in-rx (tick high) b = absurd (false≢true b)
-  still-in-rx in-rx (start-tx hb) b = rw (refused-tx (ap isIdle in-rx) hb) (same s)
+  still-in-rx in-rx (start-tx hb) b = refused-keeps (Same s) s (startTx s hb) (tx-refused s hb (ap isIdle in-rx)) (itself s)
   still-in-rx in-rx (start-answer hb) b = absurd (false≢true b)
-  still-in-rx in-rx poll b = kept poll refl
-  still-in-rx in-rx take-idle b = kept take-idle refl
-  still-in-rx in-rx take-rx b = kept take-rx refl
-  still-in-rx in-rx acknowledge b = kept acknowledge refl
-  still-in-rx in-rx (policy p) b = kept (policy p) refl
+  still-in-rx in-rx poll b = between-same poll s refl
+  still-in-rx in-rx take-idle b = between-same take-idle s refl
+  still-in-rx in-rx take-rx b = between-same take-rx s refl
+  still-in-rx in-rx acknowledge b = between-same acknowledge s refl
+  still-in-rx in-rx (policy p) b = between-same (policy p) s refl
 
-  -- In Tx both starts are.
+  -- In Tx both starts are refused.
   module _ (sending : IsSending s) (clear : Clear s) where
-    still-in-tx : (c : Call) → keepsTx c ≡ true → Kept s (after c s) × Clear (after c s)
+    abbrev StillIn : DaliBitbangPhy → Type 0
+    StillIn t = Same s t × Clear t
+
+    still-in-tx : (c : Call) → keepsTx c ≡ true → StillIn (after c s)
     unfolding after keepsTx isBetween isIdle hears
     still-in-tx (tick high) b = absurd (false≢true b)
-    still-in-tx (start-tx hb) b = rw (refused-tx (ap isIdle sending) hb) (same s, clear)
-    still-in-tx (start-answer hb) b = rw (refused-answer (ap hears sending) hb) (same s, clear)
-    still-in-tx poll b = (kept poll refl, still-clear poll refl clear)
-    still-in-tx take-idle b = (kept take-idle refl, still-clear take-idle refl clear)
-    still-in-tx take-rx b = (kept take-rx refl, still-clear take-rx refl clear)
-    still-in-tx acknowledge b = (kept acknowledge refl, still-clear acknowledge refl clear)
-    still-in-tx (policy p) b = (kept (policy p) refl, still-clear (policy p) refl clear)
+    still-in-tx (start-tx hb) b = refused-keeps StillIn s (startTx s hb) (tx-refused s hb (ap isIdle sending)) (itself s, clear)
+    still-in-tx (start-answer hb) b = refused-keeps StillIn s (startAnswer s hb) (answer-refused s hb (ap hears sending)) (itself s, clear)
+    still-in-tx poll b = (between-same poll s refl, still-clear poll refl clear)
+    still-in-tx take-idle b = (between-same take-idle s refl, still-clear take-idle refl clear)
+    still-in-tx take-rx b = (between-same take-rx s refl, still-clear take-rx refl clear)
+    still-in-tx acknowledge b = (between-same acknowledge s refl, still-clear acknowledge refl clear)
+    still-in-tx (policy p) b = (between-same (policy p) s refl, still-clear (policy p) refl clear)
 
 -- ---- any list of them
 between : (c : Call) → keepsCapture c ≡ true → isBetween c ≡ true
@@ -179,22 +119,22 @@ between take-rx b = refl
 between acknowledge b = refl
 between (policy p) b = refl
 
-pub all-kept : (cs : List Call) (s : DaliBitbangPhy) → Each isBetween cs → Kept s (afterAll cs s)
+pub all-kept : (cs : List Call) (s : DaliBitbangPhy) → Each isBetween cs → Same s (afterAll cs s)
 unfolding afterAll Each
-all-kept [] s each = same s
-all-kept (c ∷ cs) s each = on (kept s c (each .0)) (all-kept cs (after c s) (each .1))
+all-kept [] s each = itself s
+all-kept (c ∷ cs) s each = then (between-same c s (each .0)) (all-kept cs (after c s) (each .1))
 
 pub all-clear : (cs : List Call) (s : DaliBitbangPhy) → Each isBetween cs → Clear s → Clear (afterAll cs s)
 unfolding afterAll Each
 all-clear [] s each clear = clear
 all-clear (c ∷ cs) s each clear = all-clear cs (after c s) (each .1) (still-clear s c (each .0) clear)
 
-pub all-in-rx : (cs : List Call) (s : DaliBitbangPhy) → s .core .bus .«bus_state» ≡ bus.Rx → Each keepsRx cs → Kept s (afterAll cs s)
+pub all-in-rx : (cs : List Call) (s : DaliBitbangPhy) → s .core .bus .«bus_state» ≡ bus.Rx → Each keepsRx cs → Same s (afterAll cs s)
 unfolding afterAll Each
-all-in-rx [] s in-rx each = same s
+all-in-rx [] s in-rx each = itself s
 all-in-rx (c ∷ cs) s in-rx each =
     let one = still-in-rx s in-rx c (each .0) in
-    on one (all-in-rx cs (after c s) (ap (λ b. b .«bus_state») (one .bus) ∙ in-rx) (each .1))
+    then one (all-in-rx cs (after c s) (ap (λ b. b .«bus_state») (one .bus) ∙ in-rx) (each .1))
 
 pub all-between : (cs : List Call) → Each keepsCapture cs → Each isBetween cs
 unfolding Each
@@ -206,13 +146,13 @@ unfolding afterAll Each
 all-marks [] s each = refl
 all-marks (c ∷ cs) s each = all-marks cs (after c s) (each .1) ∙ same-mark s c (each .0)
 
-pub all-in-tx : (cs : List Call) (s : DaliBitbangPhy) → Each keepsTx cs → IsSending s → Clear s → Kept s (afterAll cs s) × Clear (afterAll cs s)
+pub all-in-tx : (cs : List Call) (s : DaliBitbangPhy) → Each keepsTx cs → IsSending s → Clear s → Same s (afterAll cs s) × Clear (afterAll cs s)
 unfolding afterAll Each
-all-in-tx [] s each sending clear = (same s, clear)
+all-in-tx [] s each sending clear = (itself s, clear)
 all-in-tx (c ∷ cs) s each sending clear =
     let (one, clear′) = still-in-tx s sending clear c (each .0) in
     let (others, last) = all-in-tx cs (after c s) (each .1) (ap (λ b. b .«bus_state») (one .bus) ∙ sending) clear′ in
-    (on one others, last)
+    (then one others, last)
 
 -- ---- no call at all
 alone-same : (n : ℕ) (s : DaliBitbangPhy) → aloneAmid noCalls n s ≡ alone n s

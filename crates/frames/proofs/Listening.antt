@@ -18,20 +18,17 @@ use Rattle.fsm.specs.Ticking.{tickOf}
 use Rattle.reached.specs.Calls.{Reached}
 use Rattle.reached.proofs.Holding.{invariants}
 use Rattle.reached.specs.Ticks.{IsIdle, highsRunning}
+use Rattle.reached.proofs.Between.{Same}
 use Rattle.frames.specs.ReadAs.{Whole, FitsCapture}
 use Rattle.frames.specs.Hosts.{Host, heardAmid, LetsHear}
-use Rattle.reached.proofs.Capturing.{Sampled, Stored, Hearing, Captured, hearing-next, captured-next, captured-stays, first-low, second-low}
-use Rattle.frames.proofs.Between.{Kept, markOf, all-kept, all-in-rx, all-between, all-marks}
+use Rattle.reached.proofs.Capturing.{Stored, Hearing, hearing-kept, Captured, hearing-next, captured-next, captured-stays, first-low, second-low}
+use Rattle.frames.proofs.Between.{markOf, all-kept, all-in-rx, all-between, all-marks}
 use Rattle.frames.proofs.Waving.{lastLow, after-last, short, sixteen, runs-on, lowIn-bounds}
 
 -- ---- what is left as it was
-module _ (level : ℕ → Bool) (m : ℕ) {s t : DaliBitbangPhy} (k : Kept s t) where
+module _ (level : ℕ → Bool) (m : ℕ) {s t : DaliBitbangPhy} (k : Same s t) where
   hears-on : Hearing level m s → Hearing level m t
-  hears-on h = record {
-    in-rx = ap (λ b. b .«bus_state») (k .bus) ∙ h .in-rx;
-    counters = subst (Sampled level m) (sym (k .rx)) (h .counters);
-    bytes = subst (Stored level (m / 8)) (sym (k .bytes)) (h .bytes);
-  }
+  hears-on h = record { base = h .base; on = hearing-kept (h .base) level m s t k (h .on) }
 
   holds-on : markOf t ≡ markOf s → Captured level m s → Captured level m t
   holds-on same h = record {
@@ -47,15 +44,15 @@ module _ (level : ℕ → Bool) (m : ℕ) {s t : DaliBitbangPhy} (k : Kept s t) 
 module _ (level : ℕ → Bool) (end : ℕ) (room : end ≤ 504) (long : 3 ≤ end)
     (before : (m : ℕ) → m < end → highsRunning m level ≤ 15) (full : highsRunning end level ≡ 16) (stays : (k : ℕ) → end ≤ k → level k ≡ high)
     (later : ℕ → DaliBitbangPhy) (two : Hearing level 2 (later 0))
-    (hearing-kept : (n : ℕ) → let t = tickOf (later n) (level (suc (suc n))) in t .core .bus .«bus_state» ≡ bus.Rx → Kept t (later (suc n)))
+    (calls-kept : (n : ℕ) → let t = tickOf (later n) (level (suc (suc n))) in t .core .bus .«bus_state» ≡ bus.Rx → Same t (later (suc n)))
     (ready-kept : (n : ℕ) → end ≤ suc (suc (suc n))
-    → let t = tickOf (later n) (level (suc (suc n))) in Kept t (later (suc n)) × (markOf (later (suc n)) ≡ markOf t)) where
+    → let t = tickOf (later n) (level (suc (suc n))) in Same t (later (suc n)) × (markOf (later (suc n)) ≡ markOf t)) where
   still : (n : ℕ) → suc (suc n) < end → Hearing level (suc (suc n)) (later n)
   still zero h = two
   still (suc n) h =
       let next
       = hearing-next level (suc (suc n)) (later n) (still n (omega arith)) (omega arith) (before (suc (suc n)) (omega arith)) (before (suc (suc (suc n))) h) in
-      hears-on level (suc (suc (suc n))) (hearing-kept n (next .in-rx)) next
+      hears-on level (suc (suc (suc n))) (calls-kept n (next .on .in-rx)) next
 
   caught : (n : ℕ) → suc (suc (suc n)) ≡ end → Captured level end (later (suc n))
   caught n e =
@@ -125,20 +122,20 @@ module _ (frame : List Bool) (fits : FitsCapture frame) where
     now n = heardAmid host n level s
 
     -- ---- its calls
-    first-calls : Kept s (now 0)
+    first-calls : Same s (now 0)
     unfolding heardAmid
     first-calls = all-kept (host 0) s (lets .idle 0 (omega arith))
 
-    second-calls : Kept (tickOf (now 0) (level 0)) (now 1)
+    second-calls : Same (tickOf (now 0) (level 0)) (now 1)
     unfolding heardAmid
     second-calls = all-kept (host 1) (tickOf (now 0) (level 0)) (lets .idle 1 (omega arith))
 
-    calls-in-rx : (n : ℕ) → tickOf (now n) (level n) .core .bus .«bus_state» ≡ bus.Rx → Kept (tickOf (now n) (level n)) (now (suc n))
+    calls-in-rx : (n : ℕ) → tickOf (now n) (level n) .core .bus .«bus_state» ≡ bus.Rx → Same (tickOf (now n) (level n)) (now (suc n))
     unfolding heardAmid
     calls-in-rx n in-rx = all-in-rx (host (suc n)) (tickOf (now n) (level n)) in-rx (lets .in-rx (suc n))
 
     last-calls : (n : ℕ) → lastLow frame + 17 ≤ suc n
-        → Kept (tickOf (now n) (level n)) (now (suc n)) × (markOf (now (suc n)) ≡ markOf (tickOf (now n) (level n)))
+        → Same (tickOf (now n) (level n)) (now (suc n)) × (markOf (now (suc n)) ≡ markOf (tickOf (now n) (level n)))
     unfolding heardAmid
     last-calls n h =
         let each = lets .ready (suc n) (runs-on frame (suc n) h) in
@@ -149,7 +146,7 @@ module _ (frame : List Bool) (fits : FitsCapture frame) where
     abbrev Ready : ℕ → DaliBitbangPhy → Type 0
     Ready fell t = IsIdle t × (t .core .bus .«rx_debounce» ≡ fell) × (length (t .«rx_data») ≡ 64)
 
-    idles-on : (fell : ℕ) (t u : DaliBitbangPhy) → Kept t u → Ready fell t → Ready fell u
+    idles-on : (fell : ℕ) (t u : DaliBitbangPhy) → Same t u → Ready fell t → Ready fell u
     idles-on fell t u k r = (ap (λ b. b .«bus_state») (k .bus) ∙ r .0, ap (λ b. b .«rx_debounce») (k .bus) ∙ r .1, ap length (k .bytes) ∙ r .2)
 
     -- the wave's second tick starts Rx
@@ -169,7 +166,7 @@ module _ (frame : List Bool) (fits : FitsCapture frame) where
           ends = omega arith;
           capture
               = captures level (lastLow frame + 17) (omega (arith, enough)) (omega arith) not-yet (sixteen frame) ends-high (λ k. now (suc (suc k)))
-              (hears-on level 2 (calls-in-rx 1 (two .in-rx)) two) (λ k. calls-in-rx (suc (suc k))) (λ k. last-calls (suc (suc k))) n h;
+              (hears-on level 2 (calls-in-rx 1 (two .on .in-rx)) two) (λ k. calls-in-rx (suc (suc k))) (λ k. last-calls (suc (suc k))) n h;
         }
 
     -- its first tick does, if the one before was low
@@ -185,7 +182,7 @@ module _ (frame : List Bool) (fits : FitsCapture frame) where
           ends = omega arith;
           capture
               = captures (late 1 level) (suc (lastLow frame + 17)) (omega (arith, enough)) (omega arith) not-yet-late (highs-late level (lastLow frame + 17) ∙ sixteen frame)
-              ends-high-late (λ k. now (suc k)) (hears-on (late 1 level) 2 (calls-in-rx 0 (two .in-rx)) two) (λ k. calls-in-rx (suc k)) (λ k p. last-calls (suc k) (omega arith)) n (omega arith);
+              ends-high-late (λ k. now (suc k)) (hears-on (late 1 level) 2 (calls-in-rx 0 (two .on .in-rx)) two) (λ k. calls-in-rx (suc k)) (λ k p. last-calls (suc k) (omega arith)) n (omega arith);
         }
 
     either-way : (ticks : ℕ) → lastLow frame + 17 ≤ ticks → s .core .bus .«rx_debounce» ≤ 1 → Dec (s .core .bus .«rx_debounce» < 1) → Caught frame (now ticks)

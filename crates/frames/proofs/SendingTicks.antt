@@ -30,9 +30,10 @@ use Rattle.fsm.specs.Station.{withCore}
 use Rattle.fsm.specs.Ticking.{isRx, actOf, tickOf}
 use Rattle.reached.specs.Ticks.{drives, IsIdle, IsSending}
 use Rattle.reached.specs.Calls.{Call, afterAll, isBetween}
+use Rattle.reached.proofs.Between.{Same}
 use Rattle.frames.specs.Sends.{FitsBuffer}
 use Rattle.frames.specs.Hosts.{Each, keepsTx}
-use Rattle.frames.proofs.Between.{Kept, Clear, all-kept, all-clear, all-in-tx}
+use Rattle.frames.proofs.Between.{Clear, all-kept, all-clear, all-in-tx}
 
 -- ---- a half-bit of the store
 is-zero : (b : Bool) → eqb (bit b) 0 ≡ not b
@@ -184,11 +185,11 @@ rest s r = rw (r .0, r .1) (refl, refl, r .2)
 -- ---- the calls of a host
 -- what is left as it was sends as before, under the policy that it has now
 moved : {bits : List Bool} {policy : CollisionPolicy} {ticks j left : ℕ} {level : Bool} {s t : DaliBitbangPhy}
-    → Kept s t → Clear t → Sender bits policy ticks j left level s → Sender bits (t .core .«collision_policy») ticks j left level t
+    → Same s t → Clear t → Sender bits policy ticks j left level s → Sender bits (t .core .«collision_policy») ticks j left level t
 moved k clear a = record {
   state = ap (λ b. b .«bus_state») (k .bus) ∙ a .state;
-  store = ap (λ hb. hb .«tx_hb_data») (k .store) ∙ a .store;
-  loads = ap (λ hb. hb .«tx_hb_len») (k .store) ∙ a .loads;
+  store = ap (λ hb. hb .«tx_hb_data») (k .halfbits) ∙ a .store;
+  loads = ap (λ hb. hb .«tx_hb_len») (k .halfbits) ∙ a .loads;
   watch = refl;
   arms = ap (λ tx. tx .«tx_armed») (k .tx) ∙ a .arms;
   begun = ap (λ tx. tx .«tx_hb_cnt») (k .tx) ∙ a .begun;

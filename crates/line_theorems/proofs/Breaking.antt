@@ -26,10 +26,9 @@ use Rattle.fsm.specs.declared.DaliBitbangPhy.{DaliBitbangPhy}
 use Rattle.fsm.specs.Station.{withCore}
 use Rattle.fsm.specs.Starting.{hears}
 use Rattle.fsm.specs.Ticking.{isRx, actOf, tickOf}
-use Rattle.reached.specs.Ticks.{drives, IsIdle, IsSending, heard}
+use Rattle.reached.specs.Ticks.{drives, IsIdle, IsSending, heard, IsBreaking}
 use Rattle.frames.specs.Sends.{FitsBuffer}
 use Rattle.frames.proofs.SendingTicks.{Sender, ruleOf, clashes, by-rule, hold, drive}
-use Rattle.line_theorems.specs.OnLine.{IsBreaking}
 use Rattle.line_theorems.proofs.Hearing.{heard-more, Listens}
 
 -- ---- a station in its break, so many ticks after it saw the clash

@@ -18,12 +18,12 @@ use Rattle.fsm.specs.declared.DaliBitbangPhy.{DaliBitbangPhy}
 use Rattle.fsm.specs.Starting.{hears}
 use Rattle.bench_line.specs.declared.BenchLine.{BenchLine}
 use Rattle.bench_line.specs.Line.{stationsOn, stationAt}
-use Rattle.reached.specs.Ticks.{drives, IsIdle, IsSending, heard, alone}
+use Rattle.reached.specs.Ticks.{drives, IsIdle, IsSending, heard, alone, IsBreaking}
 use Rattle.frames.specs.Sends.{FitsBuffer}
 use Rattle.frames.proofs.SendingTicks.{Sender}
 use Rattle.frames.proofs.Sending.{waving, sends}
 use Rattle.line_theorems.specs.Reached.{ReachedLine}
-use Rattle.line_theorems.specs.OnLine.{ticksOn, IsBreaking, Breaks}
+use Rattle.line_theorems.specs.OnLine.{ticksOn, Breaks}
 use Rattle.line_theorems.specs.Clash.{drivenAt}
 use Rattle.line_theorems.proofs.Hearing.{levels, on-line, heard-more, Listens, listens-on, Settles, settles-on}
 use Rattle.line_theorems.proofs.AsOne.{high-at, low-at, listening, still-listening, Drives, hears-itself}

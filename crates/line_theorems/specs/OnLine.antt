@@ -6,8 +6,6 @@ use mathlib.Core.Path.{_≡_}
 use Rattle.halfbits.specs.declared.HalfBitBuffer.{HalfBitBuffer}
 use Rattle.halfbits.specs.Frame.{Frame, bytesOf, AreBytes}
 use Rattle.halfbits.specs.Encoding.{isBitCount, frameOf, encodedOf}
-use Rattle.machine.specs.declared.BusState.the-variants as bus
-use Rattle.fsm.specs.declared.DaliBitbangPhy.{DaliBitbangPhy}
 use Rattle.fsm.specs.declared.TxPollResult.{TxPollResult}
 use Rattle.bench_line.specs.declared.BenchLine.{BenchLine}
 use Rattle.bench_line.specs.declared.LineStarted.{LineStarted}
@@ -15,7 +13,7 @@ use Rattle.bench_line.specs.declared.LinePoll.the-variants as polled
 use Rattle.bench_line.specs.declared.LineTold.the-variants as told
 use Rattle.bench_line.specs.Line.{stationsOn, stationAt, lineTicked}
 use Rattle.bench_line.specs.Calls.{startedAt}
-use Rattle.reached.specs.Ticks.{IsIdle, IsSending}
+use Rattle.reached.specs.Ticks.{IsIdle, IsSending, IsBreaking}
 use Rattle.frames.specs.Sends.{Start, startedBy}
 use Rattle.frames.specs.ReadAs.{ReadAs}
 use Rattle.line_theorems.specs.Reached.{pollOn, takeIdleOn, takeRxOn, lineAfter, poll, take-idle, take-rx}
@@ -56,9 +54,6 @@ abbrev pub startedOn : BenchLine → Sender → LineStarted
 startedOn l a = startedAt l (a .number) (startedBy (a .by) (stationAt l (a .number)) (bufferIn a))
 
 -- ---- a break
-abbrev pub IsBreaking : DaliBitbangPhy → Type 0
-IsBreaking s = s .core .bus .«bus_state» ≡ bus.CollisionTx
-
 -- A sender sends up to the clash. From there on it is in its break, and fourteen ticks later it samples the line, finds this level, and is
 -- Idle.
 pub record Breaks (l : BenchLine) (number clash : ℕ) (found : Bool) : Type 0 where

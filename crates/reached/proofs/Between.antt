@@ -1,6 +1,6 @@
 -- What calls other than ticks leave as it is. Assumes nothing.
 use mathlib.Core.Bool.{Bool, true, false, false≢true}
-use mathlib.Core.Path.{_≡_, refl, sym}
+use mathlib.Core.Path.{_≡_, refl, sym, _∙_}
 use lib.Dec.{eqb}
 use Rattle.laws.proofs.Picked.{on-false, cases}
 use Rattle.halfbits.specs.declared.HalfBitBuffer.{HalfBitBuffer}
@@ -17,7 +17,7 @@ use Rattle.fsm.specs.Polling.{isTx, polled}
 use Rattle.fsm.specs.Calls.{withPolicy, tookIdle, acknowledged, tookRx}
 use Rattle.reached.specs.Calls.{Call, tick, start-tx, start-answer, poll, take-idle, take-rx, acknowledge, policy, after, isBetween}
 
--- all that ticks go by, but for the policy
+-- all of a station but its marks and its policy
 pub record Same (s t : DaliBitbangPhy) : Type 0 where
   pub runs : t .core .runs ≡ s .core .runs
   pub bus : t .core .bus ≡ s .core .bus
@@ -25,9 +25,21 @@ pub record Same (s t : DaliBitbangPhy) : Type 0 where
   pub tx : t .core .tx ≡ s .core .tx
   pub bytes : t .«rx_data» ≡ s .«rx_data»
   pub halfbits : t .«tx_hb» ≡ s .«tx_hb»
+  pub last : t .«last_rx» ≡ s .«last_rx»
 
 pub itself : (s : DaliBitbangPhy) → Same s s
-itself s = record { runs = refl; bus = refl; rx = refl; tx = refl; bytes = refl; halfbits = refl }
+itself s = record { runs = refl; bus = refl; rx = refl; tx = refl; bytes = refl; halfbits = refl; last = refl }
+
+pub then : {s t u : DaliBitbangPhy} → Same s t → Same t u → Same s u
+then k l = record {
+  runs = l .runs ∙ k .runs;
+  bus = l .bus ∙ k .bus;
+  rx = l .rx ∙ k .rx;
+  tx = l .tx ∙ k .tx;
+  bytes = l .bytes ∙ k .bytes;
+  halfbits = l .halfbits ∙ k .halfbits;
+  last = l .last ∙ k .last;
+}
 
 -- ---- calls that tell, take or set the policy
 polled-same : (s : DaliBitbangPhy) → Same s (polled s .station)
@@ -35,16 +47,16 @@ unfolding polled
 polled-same s =
     let P : Polled → Type 0 = λ (x : Polled). Same s (x .station) in
     cases P (s .core .told .«tx_yielded»)
-    (λ _. record { runs = refl; bus = refl; rx = refl; tx = refl; bytes = refl; halfbits = refl })
+    (λ _. record { runs = refl; bus = refl; rx = refl; tx = refl; bytes = refl; halfbits = refl; last = refl })
     (λ _. cases P (eqb (s .core .told .«tx_collision») 0)
     (λ _. cases P (isTx (s .core .bus .«bus_state»)) (λ _. itself s) (λ _. itself s))
-    (λ _. record { runs = refl; bus = refl; rx = refl; tx = refl; bytes = refl; halfbits = refl }))
+    (λ _. record { runs = refl; bus = refl; rx = refl; tx = refl; bytes = refl; halfbits = refl; last = refl }))
 
 acknowledged-same : (mark : RxState) (s : DaliBitbangPhy) → Same s (acknowledged mark s)
 unfolding acknowledged
 acknowledged-same Empty s = itself s
 acknowledged-same Receiving s = itself s
-acknowledged-same Completed s = record { runs = refl; bus = refl; rx = refl; tx = refl; bytes = refl; halfbits = refl }
+acknowledged-same Completed s = record { runs = refl; bus = refl; rx = refl; tx = refl; bytes = refl; halfbits = refl; last = refl }
 
 took-same : (mark : RxState) (s : DaliBitbangPhy) → Same s (tookRx mark s .station)
 unfolding tookRx
@@ -58,10 +70,10 @@ between-same (tick high) s h = absurd (false≢true h)
 between-same (start-tx hb) s h = absurd (false≢true h)
 between-same (start-answer hb) s h = absurd (false≢true h)
 between-same poll s h = polled-same s
-between-same take-idle s h = record { runs = refl; bus = refl; rx = refl; tx = refl; bytes = refl; halfbits = refl }
+between-same take-idle s h = record { runs = refl; bus = refl; rx = refl; tx = refl; bytes = refl; halfbits = refl; last = refl }
 between-same take-rx s h = took-same (s .core .told .«rx_state») s
 between-same acknowledge s h = acknowledged-same (s .core .told .«rx_state») s
-between-same (policy p) s h = record { runs = refl; bus = refl; rx = refl; tx = refl; bytes = refl; halfbits = refl }
+between-same (policy p) s h = record { runs = refl; bus = refl; rx = refl; tx = refl; bytes = refl; halfbits = refl; last = refl }
 
 -- ---- starts that are refused
 pub tx-refused : (s : DaliBitbangPhy) (hb : HalfBitBuffer) → isIdle (s .core .bus .«bus_state») ≡ false → startTx s hb ≡ startedWith s start.Busy
@@ -71,6 +83,10 @@ tx-refused s hb e = on-false e (started s hb false) (startedWith s start.Busy)
 pub answer-refused : (s : DaliBitbangPhy) (hb : HalfBitBuffer) → hears (s .core .bus .«bus_state») ≡ false → startAnswer s hb ≡ startedWith s start.Busy
 unfolding startAnswer
 answer-refused s hb e = on-false e (started s hb true) (startedWith s start.Busy)
+
+-- whatever holds of the station holds after it
+pub refused-keeps : (P : DaliBitbangPhy → Type 0) (s : DaliBitbangPhy) (x : Started) → x ≡ startedWith s start.Busy → P s → P (x .station)
+refused-keeps P s x e p = rw e p
 
 -- in Tx and Collision every start is refused, so that whatever is called leaves that as it is
 unfoldable pub isTick : Call → Bool
@@ -90,14 +106,11 @@ deaf-idle bus.Rx h = refl
 deaf-idle bus.Tx h = refl
 deaf-idle bus.CollisionTx h = refl
 
-started-same : (s : DaliBitbangPhy) (x : Started) → x ≡ startedWith s start.Busy → Same s (x .station)
-started-same s x e = rw e (itself s)
-
 pub busy-same : (c : Call) (s : DaliBitbangPhy) → isTick c ≡ false → hears (s .core .bus .«bus_state») ≡ false → Same s (after c s)
 unfolding isTick after isBetween
 busy-same (tick high) s n h = absurd (false≢true (sym n))
-busy-same (start-tx hb) s n h = started-same s (startTx s hb) (tx-refused s hb (deaf-idle _ h))
-busy-same (start-answer hb) s n h = started-same s (startAnswer s hb) (answer-refused s hb h)
+busy-same (start-tx hb) s n h = refused-keeps (Same s) s (startTx s hb) (tx-refused s hb (deaf-idle _ h)) (itself s)
+busy-same (start-answer hb) s n h = refused-keeps (Same s) s (startAnswer s hb) (answer-refused s hb h) (itself s)
 busy-same poll s n h = between-same poll s refl
 busy-same take-idle s n h = between-same take-idle s refl
 busy-same take-rx s n h = between-same take-rx s refl

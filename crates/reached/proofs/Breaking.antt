@@ -33,7 +33,7 @@ use Rattle.fsm.specs.Polling.{isTx, polled}
 use Rattle.fsm.specs.Calls.{tookIdle}
 use Rattle.reached.specs.Calls.{Call, after, afterAll, Reached, called, tick}
 use Rattle.reached.specs.Ticks.{drives, IsSending, IsBreaking, levelsIn, ticksIn}
-use Rattle.reached.specs.OverTicks.{InBreak, Broke, Breaks}
+use Rattle.reached.specs.OverTicks.{InBreak, Broke, BreakTicks}
 use Rattle.reached.proofs.Cores.{In}
 use Rattle.reached.proofs.Stations.{reached-whole}
 use Rattle.reached.proofs.Between.{Same, tx-refused, answer-refused}
@@ -173,9 +173,9 @@ in-break n t r h = record {
   told = polled-ok t (calm t r (h .breaking)) (h .breaking);
 }
 
-pub breaks : Breaks
+pub break-ticks : BreakTicks
 unfolding after
-breaks s r level sending clash calls =
+break-ticks s r level sending clash calls =
     let t : DaliBitbangPhy = afterAll calls (tickOf s level) in
     let there : Reached t = reached-all calls (tickOf s level) (called (tick level) r) in
     record {

@@ -229,8 +229,8 @@ module _ (level : ℕ → Bool) where
 
   -- a station in Rx that has sampled m levels
   pub record Hearing (m : ℕ) (s : DaliBitbangPhy) : Type 0 where
-    base : DaliBitbangPhy
-    on : HearingOn base level m s
+    pub base : DaliBitbangPhy
+    pub on : HearingOn base level m s
 
   -- a station that has made a capture of m of them: the last sixteen were high, and what is not a whole byte is an idle one
   pub record Captured (m : ℕ) (s : DaliBitbangPhy) : Type 0 where

@@ -36,7 +36,7 @@ use Rattle.reached.specs.OverTicks.{NoLow, OneLow, Hears, Captured, begu
 use Rattle.reached.proofs.Captures.{capture-ends}
 use Rattle.reached.proofs.HalfBits.{half-bit-ticks, last-half-bit}
 use Rattle.reached.proofs.Arming.{frame-armed, answer-armed}
-use Rattle.reached.proofs.Breaking.{breaks}
+use Rattle.reached.proofs.Breaking.{break-ticks}
 use Rattle.reached.proofs.Timing.{sends-on-time}
 
 -- the same call so many times
@@ -215,4 +215,4 @@ time-used =
     sends-on-time newStation new released _ (a-frame (asked .frame-taken)) (times 6 high []) (asked .stays) .clash false (omega arith) (omega arith) (asked .fourth)
 
 break-used : Break (times 13 low []) (afterAll (times 13 low []) (tickOf (run (times 5 high sends)) false))
-break-used = breaks (run (times 5 high sends)) (reached (times 5 high sends)) false (asked .sees .0) (asked .sees .1) (times 13 low [])
+break-used = break-ticks (run (times 5 high sends)) (reached (times 5 high sends)) false (asked .sees .0) (asked .sees .1) (times 13 low [])

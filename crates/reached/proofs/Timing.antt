@@ -25,7 +25,7 @@ use Rattle.fsm.specs.Ticking.{tickOf}
 use Rattle.fsm.specs.Starting.{hears, loadedWith}
 use Rattle.reached.specs.Calls.{Call, tick, start-tx, start-answer, poll, take-idle, take-rx, acknowledge, policy, after, afterAll, Reached}
 use Rattle.reached.specs.Ticks.{drives, IsSending, IsBreaking, StaysSending, levelIn, levelsIn, ticksIn}
-use Rattle.reached.specs.OverTicks.{begun, toSend, levelOf, IsClash, OnTime, Starts, a-frame, an-answer, SendsOnTime}
+use Rattle.reached.specs.OverTicks.{begun, toSend, halfBitLevel, IsClash, OnTime, Starts, a-frame, an-answer, SendsOnTime}
 use Rattle.reached.proofs.Stations.{fits}
 use Rattle.reached.proofs.Between.{Same, isTick, busy-same}
 use Rattle.reached.proofs.Clashes.{Told, clash-told, told-clash, is-high, breaking-clash}
@@ -40,7 +40,7 @@ record Timed (hb : HalfBitBuffer) (n : ℕ) (t : DaliBitbangPhy) : Type 0 where
   early : n < 4 → (t .core .tx .«tx_sp_cnt» ≡ 0) × (drives t ≡ true)
   left : 4 ≤ n → t .core .tx .«tx_sp_cnt» + n % 4 ≡ 3
   watch : 4 ≤ n → t .core .tx .«tx_high» ≡ bit (drives t)
-  level : 4 ≤ n → drives t ≡ levelOf (hb .«data») (n / 4 - 1)
+  level : 4 ≤ n → drives t ≡ halfBitLevel (hb .«data») (n / 4 - 1)
 
 timed-start : (s : DaliBitbangPhy) (hb : HalfBitBuffer) (answer : Bool) → drives s ≡ true → Timed hb 0 (loadedWith s hb answer)
 unfolding loadedWith loaded
@@ -124,7 +124,7 @@ module _ (hb : HalfBitBuffer) (short : hb .length ≤ 54) (n : ℕ) (t : DaliBit
       })
 
   drives-next : 3 ≤ n → n % 4 ≡ 3 → n / 4 < hb .length
-      → txStep (t .core .tx) (t .core .«collision_policy») (t .«tx_hb») b ≡ Drive (levelOf (t .«tx_hb» .«tx_hb_data») (begun t)) → Timed hb (suc n) (tickOf t b)
+      → txStep (t .core .tx) (t .core .«collision_policy») (t .«tx_hb») b ≡ Drive (halfBitLevel (t .«tx_hb» .«tx_hb_data») (begun t)) → Timed hb (suc n) (tickOf t b)
   unfolding stepped driven heardOf
   drives-next many last within e =
       let next : suc n / 4 ≡ suc (n / 4) = omega arith in
@@ -163,7 +163,7 @@ module _ (hb : HalfBitBuffer) (short : hb .length ≤ 54) (n : ℕ) (t : DaliBit
     rule : txStep (t .core .tx) (t .core .«collision_policy») (t .«tx_hb») b
         ≡ pick (leb (toSend t) (begun t)) End
         (pick (clashOf (t .core .tx) (t .core .«collision_policy») (toSend t) b) Clash
-        (pick (eqb (t .core .tx .«tx_sp_cnt») 0) (pick (leb 7 (begun t / 8)) End (Drive (levelOf (t .«tx_hb» .«tx_hb_data») (begun t)))) Hold))
+        (pick (eqb (t .core .tx .«tx_sp_cnt») 0) (pick (leb 7 (begun t / 8)) End (Drive (halfBitLevel (t .«tx_hb» .«tx_hb_data») (begun t)))) Hold))
     unfolding txStep
     rule =
         let none : t .core .tx .«tx_armed» ≡ 0 = omega (arith, h .waits) in

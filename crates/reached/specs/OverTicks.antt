@@ -128,13 +128,13 @@ pub record Begins (s : DaliBitbangPhy) (level : Bool) : Type 0 where
   pub one-more : begun (tickOf s level) ≡ begun s + 1
 
 -- one bit of a store a half-bit, top bit first, where 0 leaves the line high
-abbrev pub levelOf : List ℕ → ℕ → Bool
-levelOf store k = releasesAt (getD store (k / 8) 0) k
+abbrev pub halfBitLevel : List ℕ → ℕ → Bool
+halfBitLevel store k = releasesAt (getD store (k / 8) 0) k
 
 -- The first tick of a half-bit drives it.
 pub record Drives (s : DaliBitbangPhy) (level : Bool) : Type 0 where
   pub sending : IsSending (tickOf s level)
-  pub driven : drives (tickOf s level) ≡ levelOf (s .«tx_hb» .«tx_hb_data») (begun s)
+  pub driven : drives (tickOf s level) ≡ halfBitLevel (s .«tx_hb» .«tx_hb_data») (begun s)
 
 abbrev pub HalfBitsDriven : Type 0
 HalfBitsDriven = (s : DaliBitbangPhy) (level : Bool) → Begins s level → Drives s level
@@ -226,7 +226,7 @@ ClashSeen = (s : DaliBitbangPhy) → Reached s → IsSending s → (level : Bool
 pub record OnTime (hb : HalfBitBuffer) (n : ℕ) (t : DaliBitbangPhy) : Type 0 where
   pub count : begun t ≡ n / 4
   pub armed : n < 4 → drives t ≡ high
-  pub driven : 4 ≤ n → drives t ≡ levelOf (hb .«data») (n / 4 - 1)
+  pub driven : 4 ≤ n → drives t ≡ halfBitLevel (hb .«data») (n / 4 - 1)
   pub clash : (level : Bool) → 4 ≤ n → n / 4 < hb .length → IsClash (n % 4 + 2) t level → IsBreaking (tickOf t level)
   pub no-other : (level : Bool) → IsBreaking (tickOf t level) → (4 ≤ n) × (n / 4 < hb .length) × IsClash (n % 4 + 2) t level
 
@@ -262,8 +262,8 @@ pub record Break (calls : List Call) (t : DaliBitbangPhy) : Type 0 where
   pub lasts : ticksIn calls ≤ 13 → InBreak (ticksIn calls) t
   pub sampled : ticksIn calls ≡ 13 → (sample : Bool) → Broke sample (tickOf t sample)
 
-abbrev pub Breaks : Type 0
-Breaks =
+abbrev pub BreakTicks : Type 0
+BreakTicks =
     (s : DaliBitbangPhy) → Reached s → (level : Bool) → IsSending s → IsBreaking (tickOf s level)
     → (calls : List Call) → Break calls (afterAll calls (tickOf s level))
 
