@@ -9,7 +9,7 @@ use mathlib.Core.Logic.{_⊎_, inl, inr, ⊎-elim}
 use mathlib.Core.Path.{_≡_, refl, sym, _∙_, ap, subst}
 use lib.Dec.{eqb, leb}
 use lib.ListN.{getD}
-use borrow.Author.Tests.{eqb-true, eq-eqb, ne-eqb, leb-false, le-leb, lt-leb}
+use borrow.Author.Tests.{eqb-true, eq-eqb, ne-eqb, leb-true, leb-false, le-leb, lt-leb}
 use Rattle.laws.specs.Bit.{bit}
 use Rattle.laws.specs.Pick.{pick}
 use Rattle.laws.proofs.Picked.{on-true, on-false, cases}
@@ -27,21 +27,21 @@ use Rattle.machine.specs.Idle.{idleTick}
 use Rattle.machine.specs.Sending.{clashOf, releasesAt, txStep, armed, yielded, clashed, held, driven, stepped, txTick}
 use Rattle.machine.specs.Acting as machine
 use Rattle.fsm.specs.declared.DaliBitbangPhy.{DaliBitbangPhy}
-use Rattle.fsm.specs.declared.TxPollResult.the-variants.{Ok}
+use Rattle.fsm.specs.declared.TxPollResult.the-variants.{Ok, Yielded}
 use Rattle.fsm.specs.Station.{withCore}
 use Rattle.fsm.specs.Ticking.{isRx, actOf, tickOf}
 use Rattle.fsm.specs.Starting.{hears}
 use Rattle.fsm.specs.Polling.{isTx, polled}
 use Rattle.reached.specs.Calls.{Call, tick, after, afterAll, called}
-use Rattle.reached.specs.Ticks.{drives, IsSending, IsBreaking, levelsIn, ticksIn}
-use Rattle.reached.specs.OverTicks.{begun, toSend, Begins, HalfBitsDriven, IsClash, HalfBitTicks, NoLow, LastHalfBit}
+use Rattle.reached.specs.Ticks.{drives, IsIdle, IsSending, IsBreaking, levelsIn, ticksIn}
+use Rattle.reached.specs.OverTicks.{begun, toSend, Begins, HalfBitsDriven, IsClash, HalfBitTicks, NoLow, LastHalfBit, SentWhole}
 use Rattle.reached.proofs.Cores.{In}
 use Rattle.reached.proofs.Stations.{reached-whole}
 use Rattle.reached.proofs.Between.{Same}
 use Rattle.reached.proofs.Walking.{reached-all, all-any, walk}
 use Rattle.reached.proofs.Clashes.{Told, clash-told, told-clash, is-high}
 use Rattle.reached.proofs.Breaking.{tick-on}
-use Rattle.reached.proofs.ByState.{tick-tx, tick-by, sending-not-breaking}
+use Rattle.reached.proofs.ByState.{tick-tx, tick-by, sending-not-breaking, idle-not-breaking, idle-not-sending}
 
 -- ---- the tick that begins a half-bit
 isDrive : TxStep → Bool
@@ -319,3 +319,29 @@ last-half-bit s r level b all calls none next =
     = subst (λ (x : BusState). In x (t .core .runs) (t .core .bus) (t .core .rx) (t .core .told)) (h .sending)
     (reached-whole t (reached-all calls first (called (tick level) r)) .core .state) in
     rw (end-tick first t h (rw same all) next) (record { idle = idle-now t next; told = idle-told t next (i .kept) (i .clear) })
+
+-- ---- going Idle
+module _ (s : DaliBitbangPhy) (short : toSend s ≤ 54) (sending : IsSending s) (level : Bool) where
+  Ends : TxStep → Type 0
+  Ends x = IsIdle (withCore s (stepped x (heardOf (s .core) level))) → (toSend s ≤ begun s) ⊎ (polled (withCore s (stepped x (heardOf (s .core) level))) .answer ≡ Yielded)
+
+  whole : Ends (txStep (s .core .tx) (s .core .«collision_policy») (s .«tx_hb») level)
+  unfolding Ends txStep stepped armed yielded clashed held driven idled idleTick heardOf polled pick
+  whole =
+      cases Ends (eqb (s .core .tx .«tx_armed») 0)
+      (λ _. cases Ends (leb (toSend s) (begun s)) (λ all _. inl (leb-true _ _ all))
+      (λ more. cases Ends (clashOf (s .core .tx) (s .core .«collision_policy») (toSend s) level) (λ _ e. absurd (idle-not-breaking (sym e)))
+      (λ _. cases Ends (eqb (s .core .tx .«tx_sp_cnt») 0)
+      (λ _. cases Ends (leb 7 (begun s / 8)) (λ used _. absurd (room (leb-false _ _ more) (leb-true _ _ used))) (λ _ e. absurd (idle-not-sending (sym e ∙ sending))))
+      (λ _ e. absurd (idle-not-sending (sym e ∙ sending))))))
+      (λ _. cases Ends level (λ _ e. absurd (idle-not-sending (sym e ∙ sending)))
+      (λ _. cases Ends (s .core .tx .«tx_answer») (λ _ e. absurd (idle-not-sending (sym e ∙ sending))) (λ _ _. inr refl)))
+    where
+      room : begun s < toSend s → 7 ≤ begun s / 8 → ⊥
+      room more used = omega (arith, short, more, used)
+
+pub sent-whole : SentWhole
+unfolding Ends
+sent-whole s r sending level idle =
+    let e = tick-by s level sending _ refl in
+    rw e (whole s (reached-whole s r .loads) sending level (rw e at idle))

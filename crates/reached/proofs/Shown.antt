@@ -6,6 +6,7 @@ use native.Mathlib.Decide.{decLt}
 use mathlib.Core.Bool.{Bool, true, false, false≢true}
 use mathlib.Core.Path.{_≡_, refl, _∙_, ap}
 use mathlib.Core.List.{List, [], _∷_}
+use mathlib.Core.Logic.{_⊎_}
 use lib.Dec.{leb}
 use lib.ListN.{replicate}
 use borrow.Author.Tests.{le-leb, lt-leb}
@@ -24,6 +25,7 @@ use Rattle.machine.specs.Collision.{broke, collisionTick}
 use Rattle.machine.specs.Starting.{loaded}
 use Rattle.machine.specs.Acting as machine
 use Rattle.fsm.specs.declared.DaliBitbangPhy.{DaliBitbangPhy}
+use Rattle.fsm.specs.declared.TxPollResult.the-variants.{Yielded}
 use Rattle.fsm.specs.Station.{newCore, newStation}
 use Rattle.fsm.specs.Receiving.{filled, finishedRx, storedRx}
 use Rattle.fsm.specs.Ticking.{isRx, actOf, tickOf}
@@ -32,10 +34,12 @@ use Rattle.fsm.specs.Polling.{isTx, polled}
 use Rattle.fsm.specs.Starting.{isIdle, hears, lengthFits, loadedWith, started, startTx, startAnswer}
 use Rattle.reached.specs.Calls.{Call, tick, start-tx, poll, after, afterAll, isAnswer, NoAnswer, Reached, new, called}
 use Rattle.reached.specs.Ticks.{IsIdle, IsSending, IsBreaking, StaysSending, highsRunning, levelIn, levelsIn}
-use Rattle.reached.specs.OverTicks.{NoLow, OneLow, Hears, Captured, begun, toSend, Begins, Yields, Watches, IsClash, Sent, a-frame, Break}
-use Rattle.reached.proofs.Captures.{capture-ends}
-use Rattle.reached.proofs.HalfBits.{half-bit-ticks, last-half-bit}
+use Rattle.reached.specs.OverTicks.{runOf, idleCount, NoLow, OneLow, InIdle, Hears, Captured, begun, toSend, Begins, Drives, Yields, Watches, IsClash, SeesClash, Sent, a-frame, Break}
+use Rattle.reached.proofs.Counts.{run-lengths, becomes-idle}
+use Rattle.reached.proofs.Captures.{idle-ticks, capture-ends}
+use Rattle.reached.proofs.HalfBits.{half-bits-driven, half-bit-ticks, last-half-bit, sent-whole}
 use Rattle.reached.proofs.Arming.{frame-armed, answer-armed}
+use Rattle.reached.proofs.Clashes.{clash-seen}
 use Rattle.reached.proofs.Breaking.{break-ticks}
 use Rattle.reached.proofs.Timing.{sends-on-time}
 
@@ -112,11 +116,13 @@ record Asked : Type 0 where
   -- one that is
   last : Begins (waits short) true
   all-begun : begun (tickOf (waits short) true) ≡ toSend (waits short)
+  ends : IsSending (tickOf (waits short) true) × IsIdle (tickOf (tickOf (waits short) true) false)
   -- six ticks after a start, and a low seventh
   stays : StaysSending (times 6 high []) (startTx newStation released .station)
   fourth : IsClash 4 (afterAll (times 6 high []) (startTx newStation released .station)) false
   sees : IsSending (run (times 5 high sends)) × IsBreaking (tickOf (run (times 5 high sends)) false)
   becomes-idle : (IsIdle (run (times 15 high (times 2 low []))) → ⊥) × IsIdle (tickOf (run (times 15 high (times 2 low []))) true)
+  new-idle : IsIdle newStation
 
 asked : Asked
 unfolding times run low high released sends clash capture after newStation newCore tickOf isRx actOf machine.actOf rxTick heardOf idled idleTick entered sampled highRun storedRx filled finishedRx finished startTx isIdle lengthFits started loadedWith loaded txTick txStep clashOf watchesOf releasesAt stepped armed held driven clashed collisionTick broke pick hears short waits startAnswer Watches afterAll StaysSending polled isTx
@@ -131,10 +137,12 @@ asked = record {
   third = record { released = refl; watched = λ e. omega (arith, e); third = omega arith; fourth = omega arith; fell = refl };
   last = record { sending = refl; one-more = refl };
   all-begun = refl;
+  ends = (refl, refl);
   stays = (refl, (refl, (refl, (refl, (refl, (refl, refl))))));
   fourth = record { released = refl; watched = λ e. omega (arith, e); third = omega arith; fourth = omega arith; fell = refl };
   sees = (refl, refl);
   becomes-idle = (λ e. false≢true (ap isIdle e), refl);
+  new-idle = refl;
 }
 
 -- calls whose ticks sample any levels, with a poll after each
@@ -216,3 +224,22 @@ time-used =
 
 break-used : Break (times 13 low []) (afterAll (times 13 low []) (tickOf (run (times 5 high sends)) false))
 break-used = break-ticks (run (times 5 high sends)) (reached (times 5 high sends)) false (asked .sees .0) (asked .sees .1) (times 13 low [])
+
+record Used : Type 0 where
+  runs : (runOf false (afterAll (times 70000 low []) (tickOf newStation true)) ≡ 65535) × (runOf true (afterAll (times 70000 low []) (tickOf newStation true)) ≡ 0)
+  idle : InIdle newStation
+  driven : Drives (waits released) true
+  whole : (toSend (tickOf (waits short) true) ≤ begun (tickOf (waits short) true)) ⊎ (polled (tickOf (tickOf (waits short) true) false) .answer ≡ Yielded)
+  clash : SeesClash (run (times 5 high sends)) false
+  becomes : idleCount (tickOf (run (times 15 high (times 2 low []))) true) ≡ runOf true (tickOf (run (times 15 high (times 2 low []))) true)
+
+used : Used
+unfolding low waits after
+used = record {
+  runs = run-lengths newStation false (times 70000 low []) 70000 (ticks-of 70000 false) (omega arith);
+  idle = idle-ticks newStation new (asked .new-idle);
+  driven = half-bits-driven (waits released) true (asked .half-bit);
+  whole = sent-whole (tickOf (waits short) true) (called (tick true) (reached _)) (asked .ends .0) false (asked .ends .1);
+  clash = clash-seen (run (times 5 high sends)) (reached (times 5 high sends)) (asked .sees .0) false (asked .sees .1);
+  becomes = becomes-idle (run (times 15 high (times 2 low []))) true (asked .becomes-idle .0) (asked .becomes-idle .1);
+}

@@ -211,6 +211,12 @@ LastHalfBit =
     (s : DaliBitbangPhy) → Reached s → (level : Bool) → Begins s level → begun (tickOf s level) ≡ toSend s
     → (calls : List Call) → ticksIn calls ≡ 0 → (next : Bool) → Sent (tickOf (afterAll calls (tickOf s level)) next)
 
+-- A tick goes Idle only where every half-bit has been begun, or where it yields: no station comes to use up the 7 bytes before the length.
+abbrev pub SentWhole : Type 0
+SentWhole =
+    (s : DaliBitbangPhy) → Reached s → IsSending s → (level : Bool) → IsIdle (tickOf s level)
+    → (toSend s ≤ begun s) ⊎ (polled (tickOf s level) .answer ≡ Yielded)
+
 -- A clash is told as Collision. It is a low tick on a line that the station leaves high; it is seen where the policy watches, and nowhere else.
 pub record SeesClash (s : DaliBitbangPhy) (level : Bool) : Type 0 where
   pub fell : level ≡ low
