@@ -24,7 +24,7 @@ use Rattle.window.specs.declared.SampleWindow.{SampleWindow}
 use Rattle.window.specs.Window.{windowOf, tickAt, peekAt}
 use Rattle.window.specs.Phase.{bits, after, phaseOf, bitsFrom, weightAround, strideAround, strideOf, lengthOf, scoreOf, decodeOf}
 use Rattle.window.specs.Phase as phase
-use Rattle.search.specs.Search.{acceptedOf, firstOf, endedOf, scannedOf, keptOf, stepOf, runFrom, runOf}
+use Rattle.search.specs.Search.{acceptedOf, firstOf, endedOf, scannedOf, keptOf, stepOf, firstDone, runOf}
 use Rattle.machine.specs.declared.RxState.the-variants.{Empty}
 use Rattle.machine.specs.Runs.{heardOf}
 use Rattle.machine.specs.BecomingIdle.{idled}
@@ -104,7 +104,7 @@ unfolding rows AllSay Says weightOf folded halfWeight bitWeight holds setOf with
     heard tickOf actOf isRx machine.actOf idleTick entered rxTick sampled highRun finished idled heardOf storedRx filled finishedRx
     tookRx eventOf newStation newCore
     sniffedOf foundOr searchedIn ticksOf lowsFirst longestLow
-    runOf runFrom stepOf firstOf endedOf scannedOf keptOf acceptedOf
+    runOf firstDone stepOf firstOf endedOf scannedOf keptOf acceptedOf
     phaseOf phase.bitsOf bitsFrom weightAround strideAround strideOf lengthOf scoreOf decodeOf windowOf tickAt peekAt
     packed tabulate pick
 bench-table =

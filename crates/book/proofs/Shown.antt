@@ -9,7 +9,7 @@ use Rattle.lengths.specs.Lengths.{holds, setOf, withLengths, withLength, sniffe
 use Rattle.weight.specs.Weight.{weightOf, folded, halfWeight, bitWeight}
 use Rattle.window.specs.Window.{windowOf, tickAt, levelBefore, peekAt}
 use Rattle.window.specs.Phase.{phaseOf, bitsOf, bitsFrom, weightAround, strideAround, strideOf, lengthOf, scoreOf, dataOf, decodeOf}
-use Rattle.search.specs.Search.{acceptedOf, firstOf, endedOf, scannedOf, scanPhase, keptOf, betterOf, higherOf, stepOf, runFrom, runOf}
+use Rattle.search.specs.Search.{acceptedOf, firstOf, endedOf, scannedOf, scanPhase, keptOf, betterOf, higherOf, stepOf, firstDone, runOf}
 use Rattle.fsm.specs.Station.{eventOf}
 use Rattle.rx_decode.specs.Reading.{byteOf, frameOf, sniffedOf, searchedIn, foundOr, ticksOf, lowsFirst, longestLow}
 use Rattle.bench_text.specs.Line.{grow, partedAt, isDigit, allDigits, isDecimal, valueFrom, isUpTo, digitValue, allHex, bytesOf, isC, isTooLong, hasFields, hasNumbers, hasSamples, captureLine, lineOf}
@@ -34,7 +34,7 @@ output =
     ∷ 69 ∷ 78 ∷ 68 ∷ 9 ∷ 52 ∷ 9 ∷ 49 ∷ 9 ∷ 49 ∷ 10 ∷ []
 
 pub printed-case : report input ≡ output
-unfolding packed pick tabulate holds setOf withLengths withLength sniffedLengths weightOf folded halfWeight bitWeight windowOf tickAt levelBefore peekAt phaseOf bitsOf bitsFrom weightAround strideAround strideOf lengthOf scoreOf dataOf decodeOf acceptedOf firstOf endedOf scannedOf scanPhase keptOf betterOf higherOf stepOf runFrom runOf byteOf frameOf sniffedOf searchedIn foundOr ticksOf lowsFirst longestLow grow partedAt isDigit allDigits isDecimal valueFrom isUpTo digitValue allHex bytesOf isC isTooLong hasFields hasNumbers hasSamples captureLine lineOf refusalNumber decimalIn hexDigit hexOf phaseText kindText dataText rowText badText endText captureOf eventOf answerText isFrame isDecodedAs isRefusedAs countOf answersFrom reportOf report
+unfolding packed pick tabulate holds setOf withLengths withLength sniffedLengths weightOf folded halfWeight bitWeight windowOf tickAt levelBefore peekAt phaseOf bitsOf bitsFrom weightAround strideAround strideOf lengthOf scoreOf dataOf decodeOf acceptedOf firstOf endedOf scannedOf scanPhase keptOf betterOf higherOf stepOf firstDone runOf byteOf frameOf sniffedOf searchedIn foundOr ticksOf lowsFirst longestLow grow partedAt isDigit allDigits isDecimal valueFrom isUpTo digitValue allHex bytesOf isC isTooLong hasFields hasNumbers hasSamples captureLine lineOf refusalNumber decimalIn hexDigit hexOf phaseText kindText dataText rowText badText endText captureOf eventOf answerText isFrame isDecodedAs isRefusedAs countOf answersFrom reportOf report
 printed-case = refl
 
 pub no-input : report [] ≡ 69 ∷ 78 ∷ 68 ∷ 9 ∷ 48 ∷ 9 ∷ 48 ∷ 9 ∷ 48 ∷ 10 ∷ []

@@ -1,2 +1,4 @@
+pub mod Answers
+pub mod Constants
 pub mod Search
 pub mod Steps

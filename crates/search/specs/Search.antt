@@ -1,7 +1,7 @@
 -- Document 01, "Search" (and, of "Weights and phases", the order of the scan). Assumes nothing.
 use Prim.Native.Nat.{ℕ, zero, suc, _+_, _-_}
 use mathlib.Core.Bool.{Bool, Bool·beq}
-use mathlib.Core.List.{[], _∷_}
+use mathlib.Core.List.{List, [], _∷_}
 use lib.Dec.{ltb, eqb}
 use lib.IntN.{ℤ, pos, negsuc, natAbs}
 use lib.ListN.{getD}
@@ -77,9 +77,12 @@ scannedOf s d =
     let next = searchWith (s .preferred) (s .step + 1) (keptOf (s .best) d (s .preferred)) in
     pick (ltb (s .step) 4) (stepped next Searching) (endedOf next)
 
--- the phases of the scan: -2, -1, 1 and 2 (`negsuc n` is -(n + 1))
+-- the phases of the scan in their order: -2, -1, 1 and 2 (`negsuc n` is -(n + 1))
+abbrev pub scanPhases : List ℤ
+scanPhases = negsuc 1 ∷ negsuc 0 ∷ pos 1 ∷ pos 2 ∷ []
+
 unfoldable pub scanPhase : ℕ → ℤ
-scanPhase k = getD (negsuc 1 ∷ negsuc 0 ∷ pos 1 ∷ pos 2 ∷ []) k (pos 2)
+scanPhase k = getD scanPhases k (pos 2)
 
 unfoldable pub stepOf : BestPhaseSearch → SampleWindow → Stepped
 stepOf s w =
@@ -88,15 +91,21 @@ stepOf s w =
     (scannedOf s (phaseOf w 32 (scanPhase (s .step - 1)))))
 
 -- ---- a run
--- a step's own answer, or else what comes later
-abbrev pub orLater : PhaseSearch → SearchAnswer → SearchAnswer
+-- a step's answer if it says Done, or else a later one
+abbrev pub orLater : PhaseSearch → PhaseSearch → PhaseSearch
 orLater Searching later = later
-orLater (Done answer) later = answer
+orLater (Done answer) later = Done answer
 
--- Step after step, up to the first answer. The fifth step of a search answers in any case, so no more are taken than are left of five.
-unfoldable pub runFrom : ℕ → BestPhaseSearch → SampleWindow → SearchAnswer
-runFrom zero s w = record { found = acceptedOf (s .best); steps = 5 }
-runFrom (suc left) s w = orLater (stepOf s w .answer) (runFrom left (stepOf s w .search) w)
+-- what the first of n steps in one window says that says Done, and Searching if none does
+unfoldable pub firstDone : ℕ → BestPhaseSearch → SampleWindow → PhaseSearch
+firstDone zero s w = Searching
+firstDone (suc n) s w = orLater (stepOf s w .answer) (firstDone n (stepOf s w .search) w)
 
+-- the answer that a Done hands out; Searching has none
+abbrev pub handedOut : PhaseSearch → SearchAnswer
+handedOut Searching = record { found = Nothing; steps = 0 }
+handedOut (Done answer) = answer
+
+-- A run takes steps until one says Done, and hands that answer out. Of five steps of any search one says Done: the promise of `run` says so.
 unfoldable pub runOf : BestPhaseSearch → SampleWindow → SearchAnswer
-runOf s w = runFrom (5 - s .step) s w
+runOf s w = handedOut (firstDone 5 s w)

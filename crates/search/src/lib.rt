@@ -2,7 +2,9 @@
 ghost use mathlib.Core.Path.{_≡_};
 ghost use Prim.Native.Nat.{_≤_, _<_};
 ghost use lib.IntN.{natAbs};
-ghost use Rattle.search.specs.Search.{scanPhase, higherOf, betterOf, keptOf, acceptedOf, newOf, firstOf, endedOf, scannedOf, stepOf, runOf};
+ghost use Rattle.search.specs.Search.{scanPhase, higherOf, betterOf, keptOf, acceptedOf, newOf, firstOf, endedOf, scannedOf, stepOf, firstDone, runOf};
+ghost use Rattle.search.specs.Answers.{SaysAnswer, Says};
+ghost use Rattle.search.specs.Constants.{publicConstants};
 use lengths::BitLengths;
 use window::PhaseDecode;
 use window::SampleWindow;
@@ -12,6 +14,23 @@ pub const MANCHESTER_RX_MAX_DECODED_BITS: u8 = 32;
 pub const MANCHESTER_RX_MIN_DECODED_BITS: u8 = 3;
 
 pub const PHASE_SCAN_COUNT: u8 = 4;
+
+// Nobody calls this: its promise says what each public constant is.
+fn constants() -> PublicConstants
+    ensures { λ r. ⌜ r ≡ publicConstants ⌝ }
+{
+    PublicConstants {
+        manchester_rx_max_decoded_bits: MANCHESTER_RX_MAX_DECODED_BITS,
+        manchester_rx_min_decoded_bits: MANCHESTER_RX_MIN_DECODED_BITS,
+        phase_scan_count: PHASE_SCAN_COUNT,
+    }
+}
+
+struct PublicConstants {
+    manchester_rx_max_decoded_bits: u8,
+    manchester_rx_min_decoded_bits: u8,
+    phase_scan_count: u8,
+}
 
 // A decode, or none: the Rust's Option<PhaseDecode>.
 pub enum Found {
@@ -97,6 +116,7 @@ impl BestPhaseSearch {
 
     pub fn step(self, window: SampleWindow) -> Stepped
         ensures { λ r. ⌜ r ≡ stepOf self window ⌝ }
+        ensures { λ r. ⌜ Says (r .answer) self window ⌝ }
     {
         let step = self.step;
         if step == 0 {
@@ -170,6 +190,7 @@ impl BestPhaseSearch {
 
     pub fn run(self, window: SampleWindow) -> SearchAnswer
         ensures { λ r. ⌜ r ≡ runOf self window ⌝ }
+        ensures { λ r. ⌜ (firstDone 5 self window ≡ PhaseSearch.Done r) × SaysAnswer r self window ⌝ }
     {
         let mut search = self;
         loop {

@@ -15,7 +15,7 @@ run-requires c κs = search needs
 
 returns : tie.Need-returns
 unfolding searchedIn
-returns c = rw (c .run .ensures, c .before .new .ensures, c .before .before .of-capture .ensures)
+returns c = rw (c .run .ensures .0, c .before .new .ensures, c .before .before .of-capture .ensures)
 
 pub try-decode-spec : {M : Type 1} → statement M
 try-decode-spec = tie.close (tie.spec of-capture-requires new-requires run-requires returns)

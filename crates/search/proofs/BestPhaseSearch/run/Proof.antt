@@ -3,19 +3,20 @@ use borrow.Author.Needs.{needs}
 use mathlib.Core.Path.{_≡_, refl}
 use Prim.Native.Nat.{_-_}
 use native.Mathlib.Omega.{arith}
-use Rattle.search.specs.Search.{runFrom, runOf}
-use Rattle.search.proofs.Steps.{goes, run-next, run-done}
+use Rattle.search.specs.Search.{runOf}
+use Rattle.search.proofs.Steps.{goes}
+use Rattle.search.proofs.Runs.{run-next, run-done}
+use Rattle.search.proofs.Telling.{tells-run}
 use Rattle.search.proofs.BestPhaseSearch.run.Statement.{statement}
 use Rattle.search.proofs.BestPhaseSearch.run.Tie as tie
 
 abbrev Inv-loop : tie.InvT-loop
-Inv-loop window search₀ search = runFrom (5 - search .step) search window ≡ runOf search₀ window
+Inv-loop window search₀ search = runOf search window ≡ runOf search₀ window
 
 abbrev μ-loop : tie.MeasureT-loop
 μ-loop window search₀ search = 5 - search .step
 
 loop-holds : tie.Need-loop-holds Inv-loop μ-loop
-unfolding runOf
 loop-holds c = refl
 
 step-requires : tie.Need-step-requires Inv-loop μ-loop
@@ -28,13 +29,13 @@ enum-told : tie.Need-enum-told Inv-loop μ-loop
 enum-told c = search needs
 
 loop-less : tie.Need-loop-less Inv-loop μ-loop
-loop-less c = let g = goes _ _ _ (c .before .before .before .step .ensures) (c .before .enum-told .given .1) in omega arith
+loop-less c = let g = goes _ _ _ (c .before .before .before .step .ensures .0) (c .before .enum-told .given .1) in omega arith
 
 loop-again : tie.Need-loop-again Inv-loop μ-loop
-loop-again c = run-next _ _ _ _ (c .before .before .before .step .ensures) (c .before .enum-told .given .1) (c .before .before .before .before .loop .inv)
+loop-again c = run-next _ _ _ _ (c .before .before .before .step .ensures .0) (c .before .enum-told .given .1) (c .before .before .before .before .loop .inv)
 
 returns : tie.Need-returns Inv-loop μ-loop
-returns c = run-done _ _ _ _ _ (c .before .before .before .step .ensures) (c .before .answer .given .1) (c .before .before .before .before .loop .inv)
+returns c = tells-run _ _ _ (run-done _ _ _ _ _ (c .before .before .before .step .ensures .0) (c .before .answer .given .1) (c .before .before .before .before .loop .inv))
 
 pub run-spec : {M : Type 1} → statement M
 run-spec =

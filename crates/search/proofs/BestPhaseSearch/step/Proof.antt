@@ -4,6 +4,7 @@ use borrow.Author.Tests.{eq-eqb, ne-eqb, lt-ltb, le-ltb}
 use Rattle.laws.proofs.Picked.{on-true, on-false}
 use Rattle.search.specs.Search.{stepOf}
 use Rattle.search.proofs.Steps.{scan-back}
+use Rattle.search.proofs.Telling.{tells}
 use Rattle.search.proofs.BestPhaseSearch.step.Statement.{statement}
 use Rattle.search.proofs.BestPhaseSearch.step.Tie as tie
 
@@ -15,14 +16,14 @@ after-first-requires c κs = search needs
 
 returns : tie.Need-returns
 unfolding stepOf
-returns c = rw (c .after-first .ensures, c .before .decode-phase .ensures, on-true (eq-eqb _ _ (c .before .before .if1 .taken)))
+returns c = tells _ _ _ (rw (c .after-first .ensures, c .before .decode-phase .ensures, on-true (eq-eqb _ _ (c .before .before .if1 .taken))))
 
 ended-requires : tie.Need-ended-requires
 ended-requires c κs = search needs
 
 returns-2 : tie.Need-returns-2
 unfolding stepOf
-returns-2 c = rw (c .ended .ensures, on-false (ne-eqb _ _ (c .before .before .if1 .left)), on-true (lt-ltb _ _ (c .before .if2 .taken)))
+returns-2 c = tells _ _ _ (rw (c .ended .ensures, on-false (ne-eqb _ _ (c .before .before .if1 .left)), on-true (lt-ltb _ _ (c .before .if2 .taken))))
 
 sub-scan-phase : tie.Need-sub-scan-phase
 sub-scan-phase c = search needs
@@ -38,8 +39,8 @@ after-scan-requires c κs = search needs
 
 returns-3 : tie.Need-returns-3
 unfolding stepOf
-returns-3 c = rw
-    (c .after-scan .ensures, c .before .decode-phase2 .ensures, c .before .before .scan-phase .ensures, scan-back, on-false (ne-eqb _ _ (c .before .before .before .before .if1 .left)), on-false (le-ltb _ _ (c .before .before .before .if2 .left)))
+returns-3 c = tells _ _ _
+    (rw (c .after-scan .ensures, c .before .decode-phase2 .ensures, c .before .before .scan-phase .ensures, scan-back, on-false (ne-eqb _ _ (c .before .before .before .before .if1 .left)), on-false (le-ltb _ _ (c .before .before .before .if2 .left))))
 
 pub step-spec : {M : Type 1} → statement M
 step-spec =
