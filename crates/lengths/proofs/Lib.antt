@@ -1,3 +1,3 @@
-pub mod Constants
+pub mod Masks
 pub mod Member
 pub mod Sole

@@ -2,6 +2,7 @@
 ghost use mathlib.Core.Path.{_≡_};
 ghost use mathlib.Core.List.{[], _∷_};
 ghost use Rattle.lengths.specs.Lengths.{holds, withLength, setOf, sniffedLengths, backwardLengths, HoldsJust};
+ghost use Rattle.lengths.specs.Constants.{publicConstants};
 
 // Bit n of the number stands for the length n.
 pub struct BitLengths(u32);
@@ -54,7 +55,19 @@ pub const BACKWARD_FRAME_BIT_LENGTHS: BitLengths = BitLengths(0x0000_0100);
 
 pub const FORWARD24_BITS: u8 = 24;
 
-// Nobody calls this, nor the next: their promises are what the constants mean.
+// Nobody calls this, nor the next two: their promises say what the public constants are.
+fn constants() -> PublicConstants
+    ensures { λ r. ⌜ r ≡ publicConstants ⌝ }
+{
+    PublicConstants {
+        forward24_bits: FORWARD24_BITS,
+    }
+}
+
+struct PublicConstants {
+    forward24_bits: u8,
+}
+
 fn sniffed() -> BitLengths
     ensures { λ r. ⌜ r ≡ sniffedLengths ⌝ }
     ensures { λ r. ⌜ HoldsJust r (8 ∷ 16 ∷ 24 ∷ []) ⌝ }

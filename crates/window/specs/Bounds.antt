@@ -1,12 +1,21 @@
--- What holds at the edges of "Window" and "One phase", as statements: the two bounds in their definitions never cut anything off, and the two
--- empty windows read alike. Assumes nothing.
-use Prim.Native.Nat.{ℕ, _+_}
+-- What holds at the edges of "Window" and "One phase", as statements: what the pad reads as, that the two bounds in their definitions never
+-- cut anything off, and that the two empty windows read alike. Assumes nothing.
+use Prim.Native.Nat.{ℕ, _+_, _*_, _≤_}
 use mathlib.Core.List.{List}
 use mathlib.Core.Path.{_≡_}
-use lib.IntN.{ℤ}
+use lib.IntN.{ℤ, pos, negsuc}
+use lib.ListN.{length}
 use Rattle.window.specs.declared.SampleWindow.{SampleWindow}
-use Rattle.window.specs.Window.{windowOf, emptyWindow, sampleBits}
+use Rattle.window.specs.Window.{windowOf, emptyWindow, sampleBits, levelBefore, peekAt}
 use Rattle.window.specs.Phase.{bitsFrom, bitsOf, phaseOf}
+
+-- The pad is high, and behind it there are zeros: a peek that begins a tick late in it reads 0xFE.
+abbrev pub PadReadsAsFE : Type 0
+PadReadsAsFE = (samples : List ℕ) (count : ℕ) → count ≤ 64 → count ≤ length samples → peekAt (windowOf samples count) (pos (count * 8 + 1)) ≡ 0xFE
+
+-- Before an empty capture the pad's 1 goes on.
+abbrev pub HighBeforeNothing : Type 0
+HighBeforeNothing = (samples : List ℕ) (k : ℕ) → levelBefore (windowOf samples 0) (negsuc k) ≡ 1
 
 -- Every window that can be made has all its bits among the 512.
 abbrev pub AllSampleBits : Type 0

@@ -1,4 +1,5 @@
 pub mod Bounds
 pub mod Code
+pub mod Constants
 pub mod Phase
 pub mod Window

@@ -6,12 +6,28 @@ ghost use lib.IntN.{subℕ};
 ghost use Rattle.laws.specs.Pick.{pick};
 ghost use Rattle.window.specs.Window.{windowWith, windowOf, emptyWindow, levelBefore, peekAt};
 ghost use Rattle.window.specs.Phase.{held, decodeOf, phaseOf, bitsOf, strideOf};
+ghost use Rattle.window.specs.Constants.{publicConstants};
 ghost use Rattle.window.specs.Code.{byteAt, tenTicks, peeksOf, stopOf, aroundOf, summaryOf, storedOf, pushedOf, placedOf};
 
 // From source document 000 (fsm.rs), which stands above this crate.
 pub const DALI_RX_SAMPLE_BUF_LEN: usize = 64;
 
 pub const DECODED_BYTES: usize = 8;
+
+// Nobody calls this: its promise says what each public constant is.
+fn constants() -> PublicConstants
+    ensures { λ r. ⌜ r ≡ publicConstants ⌝ }
+{
+    PublicConstants {
+        dali_rx_sample_buf_len: DALI_RX_SAMPLE_BUF_LEN,
+        decoded_bytes: DECODED_BYTES,
+    }
+}
+
+struct PublicConstants {
+    dali_rx_sample_buf_len: usize,
+    decoded_bytes: usize,
+}
 
 const WINDOW_LEN: usize = DALI_RX_SAMPLE_BUF_LEN + 2;
 

@@ -1,7 +1,7 @@
 -- `lengths::backward` meets its contract: the constant is the set {8}. Assumes nothing.
 use mathlib.Core.List.{[], _∷_}
 use Rattle.lengths.specs.Lengths.{backwardLengths}
-use Rattle.lengths.proofs.Constants.{backward-mask}
+use Rattle.lengths.proofs.Masks.{backward-mask}
 use Rattle.lengths.proofs.Member.{member}
 use Rattle.lengths.proofs.backward.Statement.{statement}
 use Rattle.lengths.proofs.backward.Tie as tie

@@ -2,7 +2,7 @@
 use borrow.Author.Needs.{needs}
 use borrow.Author.Tests.{eq-eqb, ne-eqb}
 use Rattle.laws.proofs.Picked.{on-true, on-false}
-use Rattle.lengths.proofs.Constants.{backward-mask}
+use Rattle.lengths.proofs.Masks.{backward-mask}
 use Rattle.rx_decode.specs.Reading.{byteIn}
 use Rattle.rx_decode.proofs.Telling.{tells-byte}
 use Rattle.rx_decode.proofs.decode_backward_byte.Statement.{statement}

@@ -1,6 +1,6 @@
 -- `rx_decode::found_in` meets its contract. Assumes nothing.
 use borrow.Author.Needs.{needs}
-use Rattle.lengths.proofs.Constants.{sniffed-mask}
+use Rattle.lengths.proofs.Masks.{sniffed-mask}
 use Rattle.rx_decode.specs.Reading.{foundOr}
 use Rattle.rx_decode.proofs.found_in.Statement.{statement}
 use Rattle.rx_decode.proofs.found_in.Tie as tie

@@ -2,7 +2,7 @@
 use borrow.Author.Needs.{needs}
 use mathlib.Core.Path.{_≡_, sym, _∙_, ap}
 use Rattle.lengths.specs.Lengths.{mask, sniffedLengths}
-use Rattle.lengths.proofs.Constants.{sniffed-mask}
+use Rattle.lengths.proofs.Masks.{sniffed-mask}
 use Rattle.window.specs.declared.SampleWindow.{SampleWindow}
 use Rattle.search.specs.declared.SearchAnswer.{SearchAnswer}
 use Rattle.search.specs.declared.BestPhaseSearch.{BestPhaseSearch}
