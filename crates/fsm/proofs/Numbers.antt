@@ -11,13 +11,13 @@ use Rattle.fsm.specs.Starting.{isIdle, hears, lengthFits, startedWith, l
 
 fitted : (fits : Bool) (s t : DaliBitbangPhy)
     → numberOf (pick {A = Started} fits (startedWith t start.Started) (startedWith s start.BadLength) .answer) ≡ pick fits 0 8
-unfolding pick numberOf
+unfolding pick
 fitted true s t = refl
 fitted false s t = refl
 
 numbered : (allowed : Bool) (s : DaliBitbangPhy) (hb : HalfBitBuffer) (answer : Bool)
     → numberOf (pick {A = Started} allowed (started s hb answer) (startedWith s start.Busy) .answer) ≡ startNumber allowed (lengthFits (hb .length))
-unfolding pick numberOf startNumber started
+unfolding pick startNumber started
 numbered true s hb answer = fitted (lengthFits (hb .length)) s (loadedWith s hb answer)
 numbered false s hb answer = refl
 

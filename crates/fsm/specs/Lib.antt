@@ -5,3 +5,4 @@ pub mod Starting
 pub mod Refusals
 pub mod Polling
 pub mod Calls
+pub mod Constants

@@ -1,4 +1,5 @@
 -- Document 01, "Machine", Poll. Assumes nothing.
+use Prim.Native.Nat.{ℕ}
 use mathlib.Core.Bool.{Bool, true, false}
 use mathlib.Core.Path.{_≡_}
 use lib.Dec.{eqb}
@@ -11,6 +12,13 @@ use Rattle.fsm.specs.declared.DaliBitbangPhy.{DaliBitbangPhy}
 use Rattle.fsm.specs.declared.TxPollResult.{TxPollResult}
 use Rattle.fsm.specs.declared.TxPollResult.the-variants.{Ok, Collision, Transmitting, Yielded}
 use Rattle.fsm.specs.declared.Polled.{Polled}
+
+-- each answer with its number, that of source document 000
+abbrev pub pollNumber : TxPollResult → ℕ
+pollNumber Ok = 0
+pollNumber Collision = 3
+pollNumber Transmitting = 4
+pollNumber Yielded = 5
 
 unfoldable pub isTx : BusState → Bool
 isTx bus.Idle = false

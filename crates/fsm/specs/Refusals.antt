@@ -6,7 +6,7 @@ use Rattle.fsm.specs.declared.StartAnswer.{StartAnswer}
 use Rattle.fsm.specs.declared.StartAnswer.the-variants as start
 
 -- each answer with its number; 0 is no refusal
-unfoldable pub numberOf : StartAnswer → ℕ
+abbrev pub numberOf : StartAnswer → ℕ
 numberOf start.Started = 0
 numberOf start.Busy = 7
 numberOf start.BadLength = 8

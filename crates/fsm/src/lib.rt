@@ -5,12 +5,13 @@ ghost use Prim.Native.Nat.{_+_, _-_, min};
 ghost use lib.Dec.{eqb};
 ghost use lib.ListN.{set};
 ghost use Rattle.machine.specs.Sampling.{finished};
+ghost use Rattle.fsm.specs.Constants.{publicConstants};
 ghost use Rattle.fsm.specs.Station.{eventOf, newCore, newEvent, newStation};
 ghost use Rattle.fsm.specs.Receiving.{filled, finishedRx, storedRx};
 ghost use Rattle.fsm.specs.Ticking.{ticked};
 ghost use Rattle.fsm.specs.Refusals.{numberOf, startNumber};
 ghost use Rattle.fsm.specs.Starting.{isIdle, hears, lengthFits, started, startTx, startAnswer};
-ghost use Rattle.fsm.specs.Polling.{isTx, Says, polled};
+ghost use Rattle.fsm.specs.Polling.{pollNumber, isTx, Says, polled};
 ghost use Rattle.fsm.specs.Calls.{withPolicy, tookIdle, acknowledged, tookRx};
 ghost use Rattle.machine.specs.declared.RxState.the-variants.{Empty, Completed};
 use halfbits::HalfBitBuffer;
@@ -36,11 +37,21 @@ pub use window::DALI_RX_SAMPLE_BUF_LEN;
 
 pub const LINE_HELD_TICKS: u16 = 24;
 
-// Nobody calls this: its promise is what the constant means.
-fn line_held_ticks() -> u16
-    ensures { λ r. ⌜ r ≡ 24 ⌝ }
+// Nobody calls this: its promise says what each public constant is.
+fn constants() -> PublicConstants
+    ensures { λ r. ⌜ r ≡ publicConstants ⌝ }
 {
-    LINE_HELD_TICKS
+    PublicConstants {
+        line_held_ticks: LINE_HELD_TICKS,
+        max_samples: RxCompletedEvent::MAX_SAMPLES,
+        rx_buf_size: DaliBitbangPhy::RX_BUF_SIZE,
+    }
+}
+
+struct PublicConstants {
+    line_held_ticks: u16,
+    max_samples: usize,
+    rx_buf_size: usize,
 }
 
 pub enum TxPollResult {
@@ -55,6 +66,29 @@ pub enum StartAnswer {
     Started = 0,
     Busy = 7,
     BadLength = 8,
+}
+
+// Nobody calls these two: their promises say what number each case has.
+
+fn tx_poll_result_number(result: TxPollResult) -> u8
+    ensures { λ r. ⌜ r ≡ pollNumber result ⌝ }
+{
+    match result {
+        TxPollResult::Ok => TxPollResult::Ok as u8,
+        TxPollResult::Collision => TxPollResult::Collision as u8,
+        TxPollResult::Transmitting => TxPollResult::Transmitting as u8,
+        TxPollResult::Yielded => TxPollResult::Yielded as u8,
+    }
+}
+
+fn start_answer_number(answer: StartAnswer) -> u8
+    ensures { λ r. ⌜ r ≡ numberOf answer ⌝ }
+{
+    match answer {
+        StartAnswer::Started => StartAnswer::Started as u8,
+        StartAnswer::Busy => StartAnswer::Busy as u8,
+        StartAnswer::BadLength => StartAnswer::BadLength as u8,
+    }
 }
 
 pub fn settle_ticks_on_wire(pre_idle_ticks: u16, lead: u8) -> u16

@@ -8,3 +8,5 @@ pub mod Starting
 pub mod Acting
 pub mod Storing
 pub mod Groups
+pub mod Constants
+pub mod Numbers

@@ -2,6 +2,8 @@
 ghost use mathlib.Core.Path.{_≡_};
 ghost use Prim.Native.Nat.{_+_, _-_, _*_, _%_, min};
 ghost use Rattle.laws.specs.Bit.{bit};
+ghost use Rattle.machine.specs.Constants.{publicConstants};
+ghost use Rattle.machine.specs.Numbers.{busStateNumber, rxStateNumber, collisionPolicyNumber};
 ghost use Rattle.machine.specs.Groups.{received};
 ghost use Rattle.machine.specs.Runs.{heardOf};
 ghost use Rattle.machine.specs.BecomingIdle.{idled};
@@ -38,11 +40,29 @@ const COLLISION_CHECK_TICK: u8 = COLLISION_BREAK_TICKS + 2;
 
 const BACKWARD_FRAME_HALF_BITS: u8 = 22;
 
-// Nobody calls this: its promise is what the constant means.
-fn phy_tick_us() -> u32
-    ensures { λ r. ⌜ r ≡ 104 ⌝ }
+// Nobody calls this: its promise says what each public constant is.
+fn constants() -> PublicConstants
+    ensures { λ r. ⌜ r ≡ publicConstants ⌝ }
 {
-    PHY_TICK_US
+    PublicConstants {
+        max_rx_idx: MAX_RX_IDX,
+        phy_tick_us: PHY_TICK_US,
+        rx_idle_line_high_ticks: RX_IDLE_LINE_HIGH_TICKS,
+        rx_start_debounce_ticks: RX_START_DEBOUNCE_TICKS,
+        tx_half_bit_ticks: TX_HALF_BIT_TICKS,
+        tx_arm_lead_ticks: TX_ARM_LEAD_TICKS,
+        collision_break_ticks: COLLISION_BREAK_TICKS,
+    }
+}
+
+struct PublicConstants {
+    max_rx_idx: usize,
+    phy_tick_us: u32,
+    rx_idle_line_high_ticks: u8,
+    rx_start_debounce_ticks: u8,
+    tx_half_bit_ticks: u32,
+    tx_arm_lead_ticks: u8,
+    collision_break_ticks: u8,
 }
 
 pub enum BusState {
@@ -53,15 +73,48 @@ pub enum BusState {
 }
 
 pub enum RxState {
-    Empty,
-    Receiving,
-    Completed,
+    Empty = 0,
+    Receiving = 1,
+    Completed = 2,
 }
 
 pub enum CollisionPolicy {
     Auto = 0,
     Off = 1,
     On = 2,
+}
+
+// Nobody calls these three: their promises say what number each case has.
+
+fn bus_state_number(bus_state: BusState) -> u8
+    ensures { λ r. ⌜ r ≡ busStateNumber «bus_state» ⌝ }
+{
+    match bus_state {
+        BusState::Idle => BusState::Idle as u8,
+        BusState::Rx => BusState::Rx as u8,
+        BusState::Tx => BusState::Tx as u8,
+        BusState::CollisionTx => BusState::CollisionTx as u8,
+    }
+}
+
+fn rx_state_number(rx_state: RxState) -> u8
+    ensures { λ r. ⌜ r ≡ rxStateNumber «rx_state» ⌝ }
+{
+    match rx_state {
+        RxState::Empty => RxState::Empty as u8,
+        RxState::Receiving => RxState::Receiving as u8,
+        RxState::Completed => RxState::Completed as u8,
+    }
+}
+
+fn collision_policy_number(collision_policy: CollisionPolicy) -> u8
+    ensures { λ r. ⌜ r ≡ collisionPolicyNumber «collision_policy» ⌝ }
+{
+    match collision_policy {
+        CollisionPolicy::Auto => CollisionPolicy::Auto as u8,
+        CollisionPolicy::Off => CollisionPolicy::Off as u8,
+        CollisionPolicy::On => CollisionPolicy::On as u8,
+    }
 }
 
 // How long the line has had its level.
