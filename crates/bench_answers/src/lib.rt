@@ -5,10 +5,12 @@ ghost use mathlib.Core.List.{[], _∷_};
 ghost use Prim.Native.Nat.{_+_, _<_, _≤_};
 ghost use lib.Dec.{leb};
 ghost use lib.IntN.{natAbs};
+ghost use Rattle.bench_answers.specs.Constants.{publicConstants};
 ghost use Rattle.bench_answers.specs.Answer.{decimalOf, hexDigit, hexOf, phaseText, kindText, dataText, rowText, badText, endText, placeAfter, bufferAfter};
 ghost use Rattle.bench_text.specs.Refusals.{refusalNumber};
 ghost use Rattle.bench_answers.specs.Code.{Fits, Wrote, digits, placesOf, fieldText, headText, tailText};
 use bench_text::Refusal;
+use bench_text::refusal_number;
 use fsm::PHY_TICK_US;
 use rx_decode::SniffedDecode;
 use rx_decode::SniffedFrame;
@@ -19,6 +21,23 @@ pub const ROW_MAX: usize = 46;
 pub const BAD_MAX: usize = 17;
 
 pub const END_MAX: usize = 37;
+
+// Nobody calls this: its promise says what each public constant is.
+fn constants() -> PublicConstants
+    ensures { λ r. ⌜ r ≡ publicConstants ⌝ }
+{
+    PublicConstants {
+        row_max: ROW_MAX,
+        bad_max: BAD_MAX,
+        end_max: END_MAX,
+    }
+}
+
+struct PublicConstants {
+    row_max: usize,
+    bad_max: usize,
+    end_max: usize,
+}
 
 // The answer to a good line.
 pub fn put_row(
@@ -75,12 +94,6 @@ pub fn put_end(out: &mut [u8], at: usize, lines: u32, decoded: u32, refused: u32
     let at = put_field(out, at, lines, b'\t');
     let at = put_field(out, at, decoded, b'\t');
     put_field(out, at, refused, b'\n')
-}
-
-fn refusal_number(refusal: Refusal) -> u32
-    ensures { λ r. ⌜ r ≡ refusalNumber refusal ⌝ }
-{
-    refusal as u32
 }
 
 fn has_room(len: usize, at: usize, longest: usize) -> bool

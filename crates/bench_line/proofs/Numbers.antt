@@ -35,12 +35,12 @@ picked number true a b = refl
 picked number false a b = refl
 
 pub made-number : (count : ℕ) → newNumber (madeLine count .answer) ≡ pick (isCount count) 0 10
-unfolding newNumber madeLine
+unfolding madeLine
 made-number count = picked (λ (r : MadeLine). newNumber (r .answer)) (isCount count) _ _
 
 module _ (l : BenchLine) (number : ℕ) where
   pub changed-number : (s : DaliBitbangPhy) → doneNumber (changedAt l number s .answer) ≡ pick (isOn l number) 0 9
-  unfolding doneNumber changedAt
+  unfolding changedAt
   changed-number s = picked (λ (r : LineChanged). doneNumber (r .answer)) (isOn l number) _ _
 
   started-number : (r : Started) → startNumberOf (startedAt l number r .answer) ≡ pick (isOn l number) (numberOf (r .answer)) 9
@@ -70,5 +70,5 @@ module _ (l : BenchLine) (number : ℕ) where
   took-rx-number r = picked (λ (r : LineTookRx). toldNumber (r .answer)) (isOn l number) _ _
 
   pub seen-number : doneNumber (seenAt l number .answer) ≡ pick (isOn l number) 0 9
-  unfolding doneNumber seenAt
+  unfolding seenAt
   seen-number = picked (λ (r : SeenStation). doneNumber (r .answer)) (isOn l number) _ _

@@ -1,3 +1,4 @@
 pub mod Line
 pub mod Refusals
 pub mod Calls
+pub mod Constants

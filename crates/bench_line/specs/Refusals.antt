@@ -20,11 +20,11 @@ unfoldable pub isCount : ℕ → Bool
 isCount n = pick (eqb n 0) false (leb n 4)
 
 -- ---- each answer with its number; 0 is no refusal
-unfoldable pub newNumber : LineNew → ℕ
+abbrev pub newNumber : LineNew → ℕ
 newNumber made.Made = 0
 newNumber made.BadCount = 10
 
-unfoldable pub doneNumber : LineDone → ℕ
+abbrev pub doneNumber : LineDone → ℕ
 doneNumber done.Done = 0
 doneNumber done.NoStation = 9
 

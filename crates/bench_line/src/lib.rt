@@ -8,6 +8,7 @@ ghost use Rattle.fsm.specs.Starting.{isIdle, hears, lengthFits, startTx, startA
 ghost use Rattle.fsm.specs.Refusals.{startNumber};
 ghost use Rattle.fsm.specs.Polling.{polled};
 ghost use Rattle.fsm.specs.Calls.{withPolicy, tookIdle, acknowledged, tookRx};
+ghost use Rattle.bench_line.specs.Constants.{publicConstants};
 ghost use Rattle.bench_line.specs.Line.{stationsOn, isOn, stationAt, withStation, newLine, allTicked, levelLeft, lineTicked};
 ghost use Rattle.bench_line.specs.Refusals.{newNumber, isCount, doneNumber, startNumberOf, pollNumber, toldNumber};
 ghost use Rattle.bench_line.specs.Calls.{madeLine, changedAt, startedAt, polledAt, tookIdleAt, tookRxAt, seenAt};
@@ -23,6 +24,19 @@ use fsm::TxPollResult;
 use halfbits::HalfBitBuffer;
 
 pub const MAX_STATIONS: usize = 4;
+
+// Nobody calls this: its promise says what each public constant is.
+fn constants() -> PublicConstants
+    ensures { λ r. ⌜ r ≡ publicConstants ⌝ }
+{
+    PublicConstants {
+        max_stations: MAX_STATIONS,
+    }
+}
+
+struct PublicConstants {
+    max_stations: usize,
+}
 
 pub struct BenchLine {
     stations: [DaliBitbangPhy; MAX_STATIONS],
@@ -57,6 +71,26 @@ pub enum LineTold {
 pub enum LineNew {
     Made = 0,
     BadCount = 10,
+}
+
+// Nobody calls these two: their promises say what number each case has.
+
+fn line_done_number(answer: LineDone) -> u8
+    ensures { λ r. ⌜ r ≡ doneNumber answer ⌝ }
+{
+    match answer {
+        LineDone::Done => LineDone::Done as u8,
+        LineDone::NoStation => LineDone::NoStation as u8,
+    }
+}
+
+fn line_new_number(answer: LineNew) -> u8
+    ensures { λ r. ⌜ r ≡ newNumber answer ⌝ }
+{
+    match answer {
+        LineNew::Made => LineNew::Made as u8,
+        LineNew::BadCount => LineNew::BadCount as u8,
+    }
 }
 
 // Calls that change a line give it back beside their answer.

@@ -423,7 +423,7 @@ told : (long four numbers samples : Bool) (r : BookLine) → numberOf (r .answer
     → numberOf (pick long (refusedLine TooLong)
     (pick (not four) (refusedLine NotFourFields) (pick (not numbers) (refusedLine BadNumber) (pick (not samples) (refusedLine BadSamples) r))) .answer)
     ≡ pick long 1 (pick four (pick numbers (pick samples 0 4) 3) 2)
-unfolding pick numberOf refusalNumber
+unfolding pick numberOf
 told true four numbers samples r e = refl
 told false false numbers samples r e = refl
 told false true false samples r e = refl

@@ -1,3 +1,4 @@
 pub mod Code
 pub mod Line
 pub mod Refusals
+pub mod Constants

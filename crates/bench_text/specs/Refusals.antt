@@ -8,7 +8,7 @@ use Rattle.bench_text.specs.declared.Refusal.{Refusal}
 use Rattle.bench_text.specs.declared.Refusal.the-variants.{TooLong, NotFourFields, BadNumber, BadSamples}
 use Rattle.bench_text.specs.Line.{isTooLong, hasFields, hasNumbers, hasSamples}
 
-unfoldable pub refusalNumber : Refusal → ℕ
+abbrev pub refusalNumber : Refusal → ℕ
 refusalNumber TooLong = 1
 refusalNumber NotFourFields = 2
 refusalNumber BadNumber = 3

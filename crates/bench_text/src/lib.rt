@@ -3,13 +3,25 @@
 ghost use mathlib.Core.Path.{_≡_};
 ghost use Prim.Native.Nat.{_+_, _≤_};
 ghost use lib.ListN.{length, drop};
+ghost use Rattle.bench_text.specs.Constants.{publicConstants};
 ghost use Rattle.bench_text.specs.Line.{isDigit, digitValue, lineOf, refusedLine};
-ghost use Rattle.bench_text.specs.Refusals.{numberOf, lineNumber};
+ghost use Rattle.bench_text.specs.Refusals.{refusalNumber, numberOf, lineNumber};
 ghost use Rattle.bench_text.specs.Code.{tabAfter, CutsSay, Tabs, numberIn, samplesLine};
 use window::DALI_RX_SAMPLE_BUF_LEN;
 
 // A line of more bytes is refused. The longest good one has 137.
 pub const LINE_MAX: usize = 140;
+
+// Nobody calls this: its promise says what each public constant is.
+fn constants() -> PublicConstants
+    ensures { λ r. ⌜ r ≡ publicConstants ⌝ }
+{
+    PublicConstants { line_max: LINE_MAX }
+}
+
+struct PublicConstants {
+    line_max: usize,
+}
 
 // Why a line is refused, each with its number.
 pub enum Refusal {
@@ -17,6 +29,17 @@ pub enum Refusal {
     NotFourFields = 2,
     BadNumber = 3,
     BadSamples = 4,
+}
+
+pub fn refusal_number(refusal: Refusal) -> u32
+    ensures { λ r. ⌜ r ≡ refusalNumber refusal ⌝ }
+{
+    match refusal {
+        Refusal::TooLong => Refusal::TooLong as u32,
+        Refusal::NotFourFields => Refusal::NotFourFields as u32,
+        Refusal::BadNumber => Refusal::BadNumber as u32,
+        Refusal::BadSamples => Refusal::BadSamples as u32,
+    }
 }
 
 // The silence in ticks and the count of samples, or why there are none.

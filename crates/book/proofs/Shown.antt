@@ -34,7 +34,7 @@ output =
     ∷ 69 ∷ 78 ∷ 68 ∷ 9 ∷ 52 ∷ 9 ∷ 49 ∷ 9 ∷ 49 ∷ 10 ∷ []
 
 pub printed-case : report input ≡ output
-unfolding packed pick tabulate holds setOf withLengths withLength sniffedLengths weightOf folded halfWeight bitWeight windowOf tickAt levelBefore peekAt phaseOf bitsOf bitsFrom weightAround strideAround strideOf lengthOf scoreOf dataOf decodeOf acceptedOf firstOf endedOf scannedOf scanPhase keptOf betterOf higherOf stepOf firstDone runOf byteOf frameOf sniffedOf searchedIn foundOr ticksOf lowsFirst longestLow grow partedAt isDigit allDigits isDecimal valueFrom isUpTo digitValue allHex bytesOf isC isTooLong hasFields hasNumbers hasSamples captureLine lineOf refusalNumber decimalIn hexDigit hexOf phaseText kindText dataText rowText badText endText captureOf eventOf answerText isFrame isDecodedAs isRefusedAs countOf answersFrom reportOf report
+unfolding packed pick tabulate holds setOf withLengths withLength sniffedLengths weightOf folded halfWeight bitWeight windowOf tickAt levelBefore peekAt phaseOf bitsOf bitsFrom weightAround strideAround strideOf lengthOf scoreOf dataOf decodeOf acceptedOf firstOf endedOf scannedOf scanPhase keptOf betterOf higherOf stepOf firstDone runOf byteOf frameOf sniffedOf searchedIn foundOr ticksOf lowsFirst longestLow grow partedAt isDigit allDigits isDecimal valueFrom isUpTo digitValue allHex bytesOf isC isTooLong hasFields hasNumbers hasSamples captureLine lineOf decimalIn hexDigit hexOf phaseText kindText dataText rowText badText endText captureOf eventOf answerText isFrame isDecodedAs isRefusedAs countOf answersFrom reportOf report
 printed-case = refl
 
 pub no-input : report [] ≡ 69 ∷ 78 ∷ 68 ∷ 9 ∷ 48 ∷ 9 ∷ 48 ∷ 9 ∷ 48 ∷ 10 ∷ []

@@ -2,3 +2,4 @@ pub mod Code
 pub mod Reader
 pub mod Report
 pub mod Whole
+pub mod Constants

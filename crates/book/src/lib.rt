@@ -5,6 +5,7 @@ ghost use mathlib.Core.List.{[]};
 ghost use Prim.Native.Nat.{_+_, _*_, _≤_, _<_, min};
 ghost use lib.ListN.{length, take};
 ghost use lib.Seq.{sets};
+ghost use Rattle.book.specs.Constants.{publicConstants};
 ghost use Rattle.book.specs.Report.{isFrame, captureOf};
 ghost use Rattle.book.specs.Reader.{oneMore, newReader, isFull, bytesIn, fed, bufferFed, finished, bufferFinished, countsText};
 ghost use Rattle.bench_text.specs.declared.LineAnswer.the-variants.{Capture, Refused};
@@ -20,6 +21,19 @@ use rx_decode::SniffedFrame;
 
 // A book has no more lines: what follows them is not read.
 pub const MAX_LINES: u32 = 999_999;
+
+// Nobody calls this: its promise says what each public constant is.
+fn constants() -> PublicConstants
+    ensures { λ r. ⌜ r ≡ publicConstants ⌝ }
+{
+    PublicConstants {
+        max_lines: MAX_LINES,
+    }
+}
+
+struct PublicConstants {
+    max_lines: u32,
+}
 
 // Room for one byte more than a line may have, which tells that it is too long.
 const LINE_ROOM: usize = LINE_MAX + 1;

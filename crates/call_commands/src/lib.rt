@@ -2,6 +2,7 @@
 // answers is a bad one.
 ghost use mathlib.Core.Path.{_≡_};
 ghost use Prim.Native.Nat.{_+_, _≤_};
+ghost use Rattle.call_commands.specs.Constants.{publicConstants};
 ghost use Rattle.call_commands.specs.Kept.{newKept};
 use bench_line::BenchLine;
 use call_text::answer;
@@ -14,6 +15,21 @@ pub const LINE_MAX: usize = 2047;
 
 // No answer is longer, its LF counted: the longest is that of `steps`, of at most 6 + 5 + 255 * 38 + 1 bytes.
 pub const ANSWER_MAX: usize = 10_000;
+
+// Nobody calls this: its promise says what each public constant is.
+fn constants() -> PublicConstants
+    ensures { λ r. ⌜ r ≡ publicConstants ⌝ }
+{
+    PublicConstants {
+        line_max: LINE_MAX,
+        answer_max: ANSWER_MAX,
+    }
+}
+
+struct PublicConstants {
+    line_max: usize,
+    answer_max: usize,
+}
 
 // What is kept from line to line.
 pub struct Kept {

@@ -1,5 +1,7 @@
 // What a station tells, written as answers of the call protocol (document 04), whether it is the kept one or one of the bench line.
+ghost use mathlib.Core.Path.{_≡_};
 ghost use Prim.Native.Nat.{_+_, _≤_};
+ghost use Rattle.call_reports.specs.Constants.{publicConstants};
 use call_text::answer;
 use call_text::answer::Answers;
 use fsm::BusState;
@@ -16,6 +18,21 @@ pub const TICKS_MAX: u16 = 4096;
 pub type Wave = [u8; WAVE_BYTES];
 
 pub const WAVE_BYTES: usize = TICKS_MAX as usize / 8;
+
+// Nobody calls this: its promise says what each public constant is.
+fn constants() -> PublicConstants
+    ensures { λ r. ⌜ r ≡ publicConstants ⌝ }
+{
+    PublicConstants {
+        ticks_max: TICKS_MAX,
+        wave_bytes: WAVE_BYTES,
+    }
+}
+
+struct PublicConstants {
+    ticks_max: u16,
+    wave_bytes: usize,
+}
 
 // `ok`, `refused 7` or `refused 8`
 pub fn put_start_answer(out: &mut Answers, at: usize, start_answer: StartAnswer) -> usize

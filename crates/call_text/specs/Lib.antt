@@ -3,3 +3,4 @@ pub mod Code
 pub mod Fields
 pub mod Values
 pub mod Writing
+pub mod Constants

@@ -14,11 +14,11 @@ use Rattle.fsm.specs.declared.TxPollResult.the-variants.{Ok, Collision, 
 use Rattle.fsm.specs.declared.Polled.{Polled}
 
 -- each answer with its number, that of source document 000
-abbrev pub pollNumber : TxPollResult → ℕ
-pollNumber Ok = 0
-pollNumber Collision = 3
-pollNumber Transmitting = 4
-pollNumber Yielded = 5
+abbrev pub pollResultNumber : TxPollResult → ℕ
+pollResultNumber Ok = 0
+pollResultNumber Collision = 3
+pollResultNumber Transmitting = 4
+pollResultNumber Yielded = 5
 
 unfoldable pub isTx : BusState → Bool
 isTx bus.Idle = false

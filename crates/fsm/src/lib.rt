@@ -11,7 +11,7 @@ ghost use Rattle.fsm.specs.Receiving.{filled, finishedRx, storedRx};
 ghost use Rattle.fsm.specs.Ticking.{ticked};
 ghost use Rattle.fsm.specs.Refusals.{numberOf, startNumber};
 ghost use Rattle.fsm.specs.Starting.{isIdle, hears, lengthFits, started, startTx, startAnswer};
-ghost use Rattle.fsm.specs.Polling.{pollNumber, isTx, Says, polled};
+ghost use Rattle.fsm.specs.Polling.{pollResultNumber, isTx, Says, polled};
 ghost use Rattle.fsm.specs.Calls.{withPolicy, tookIdle, acknowledged, tookRx};
 ghost use Rattle.machine.specs.declared.RxState.the-variants.{Empty, Completed};
 use halfbits::HalfBitBuffer;
@@ -71,7 +71,7 @@ pub enum StartAnswer {
 // Nobody calls these two: their promises say what number each case has.
 
 fn tx_poll_result_number(result: TxPollResult) -> u8
-    ensures { λ r. ⌜ r ≡ pollNumber result ⌝ }
+    ensures { λ r. ⌜ r ≡ pollResultNumber result ⌝ }
 {
     match result {
         TxPollResult::Ok => TxPollResult::Ok as u8,

@@ -3,3 +3,4 @@ pub mod Wave
 pub mod HalfBits
 pub mod Encoding
 pub mod Code
+pub mod Constants

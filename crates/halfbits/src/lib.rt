@@ -6,6 +6,7 @@ ghost use Prim.Native.Nat.{_-_, _*_, _/_, _%_, _≤_};
 ghost use lib.Dec.{leb};
 ghost use lib.ListN.{length, drop};
 ghost use Rattle.laws.specs.Tabulate.{tabulate};
+ghost use Rattle.halfbits.specs.Constants.{publicConstants};
 ghost use Rattle.halfbits.specs.Frame.{bitAt};
 ghost use Rattle.halfbits.specs.HalfBits.{halfBitsOf};
 ghost use Rattle.halfbits.specs.Encoding.{isBitCount, frameOf, numberOf, encodeNumber, answerOf, writtenTo, emptyBuffer, encodedOf};
@@ -129,16 +130,17 @@ fn put_store(all: u64, out: &mut [u8])
     }
 }
 
-// Nobody calls these: their promises are what the constants mean.
-
-fn data_len() -> usize
-    ensures { λ r. ⌜ r ≡ 7 ⌝ }
+// Nobody calls this: its promise says what each public constant is.
+fn constants() -> PublicConstants
+    ensures { λ r. ⌜ r ≡ publicConstants ⌝ }
 {
-    HalfBitBuffer::DATA_LEN
+    PublicConstants {
+        data_len: HalfBitBuffer::DATA_LEN,
+        max_data_half_bits: HalfBitBuffer::MAX_DATA_HALF_BITS,
+    }
 }
 
-fn max_data_half_bits() -> u8
-    ensures { λ r. ⌜ r ≡ 54 ⌝ }
-{
-    HalfBitBuffer::MAX_DATA_HALF_BITS
+struct PublicConstants {
+    data_len: usize,
+    max_data_half_bits: u8,
 }

@@ -12,7 +12,6 @@ use Rattle.bench_answers.proofs.put_bad.Statement.{statement}
 use Rattle.bench_answers.proofs.put_bad.Tie as tie
 
 small : (refusal : Refusal) → refusalNumber refusal < 10
-unfolding refusalNumber
 small TooLong = omega arith
 small NotFourFields = omega arith
 small BadNumber = omega arith
