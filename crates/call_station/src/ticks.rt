@@ -1,5 +1,8 @@
-// The commands that tick the station.
+// The commands that tick the station. A tick has two forms: by value, and `host::tick`, which firmware calls. A `tick` line takes the second, and
+// a `ticks` line both by turns: their answers are the same, and the comparison with the Rust then shows that each of them is right.
+ghost use mathlib.Core.Path.{_≡_};
 ghost use Prim.Native.Nat.{_+_, _≤_};
+ghost use Rattle.fsm.specs.Ticking.{ticked};
 use crate::Called;
 use call_reports::TICKS_MAX;
 use call_reports::WAVE_BYTES;
@@ -11,6 +14,7 @@ use call_text::values;
 use call_text::values::Count;
 use call_text::values::Number;
 use fsm::DaliBitbangPhy;
+use fsm::Ticked;
 
 // What ticks leave: the station, and the wave that it drove.
 struct Ran {
@@ -26,7 +30,7 @@ pub(crate) fn tick(line: &[u8], station: DaliBitbangPhy, out: &mut Answers, at: 
     if 1 < level {
         return Called { station, at };
     }
-    let ticked = station.tick(level == 1);
+    let ticked = host::tick_lent(station, level == 1);
     let next = ticked.station;
     let at = answer::put_text(out, at, b"d ");
     Called {
@@ -66,7 +70,16 @@ fn put_ran(out: &mut Answers, at: usize, ran: Ran, count: usize) -> Called
     }
 }
 
-// Ticks the station with the first `count` levels of a wave. The fill of the wave that it drove is 0.
+fn tick_either(station: DaliBitbangPhy, bus_is_high: bool, lends: bool) -> Ticked
+    ensures { λ r. ⌜ r ≡ ticked station «bus_is_high» ⌝ }
+{
+    if lends {
+        return host::tick_lent(station, bus_is_high);
+    }
+    station.tick(bus_is_high)
+}
+
+// Ticks the station with the first `count` levels of a wave, every second time lent. The fill of the wave that it drove is 0.
 fn run(mut station: DaliBitbangPhy, levels: &Wave, count: usize) -> Ran
     requires { ⌜ count ≤ 4096 ⌝ }
 {
@@ -75,7 +88,8 @@ fn run(mut station: DaliBitbangPhy, levels: &Wave, count: usize) -> Ran
     while i < count {
         let at = i / 8;
         let place = 7 - i % 8;
-        let ticked = station.tick((levels[at] >> place) % 2 == 1);
+        let level = (levels[at] >> place) % 2;
+        let ticked = tick_either(station, level == 1, i % 2 == 1);
         driven[at] = driven[at] | (ticked.driven_high as u8) << place;
         station = ticked.station;
         i += 1;

@@ -2,6 +2,7 @@
 ghost use mathlib.Core.Path.{_≡_};
 ghost use Rattle.fsm.specs.Ticking.{ticked};
 use fsm::DaliBitbangPhy;
+use fsm::Ticked;
 
 // What the by-value tick answers: its station is left behind the reference, and its level is handed back.
 pub fn tick(station: &mut DaliBitbangPhy, bus_is_high: bool) -> bool
@@ -11,4 +12,15 @@ pub fn tick(station: &mut DaliBitbangPhy, bus_is_high: bool) -> bool
     let next = (*station).tick(bus_is_high);
     *station = next.station;
     next.driven_high
+}
+
+// `tick` for whoever holds a station by value: it is lent to `tick`, and handed back as that leaves it.
+pub fn tick_lent(mut station: DaliBitbangPhy, bus_is_high: bool) -> Ticked
+    ensures { λ r. ⌜ r ≡ ticked station «bus_is_high» ⌝ }
+{
+    let driven_high = tick(&mut station, bus_is_high);
+    Ticked {
+        station,
+        driven_high,
+    }
 }

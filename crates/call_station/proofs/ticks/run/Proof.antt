@@ -16,17 +16,17 @@ loop-holds c = search needs
 sub-place : tie.Need-sub-place Inv-loop μ-loop
 sub-place c = search needs
 
-element-copy-out-tick : tie.Need-element-copy-out-tick Inv-loop μ-loop
-element-copy-out-tick c = search needs
+element-copy-out-level : tie.Need-element-copy-out-level Inv-loop μ-loop
+element-copy-out-level c = search needs
 
-cast-tick : tie.Need-cast-tick Inv-loop μ-loop
-cast-tick c = search needs
+cast-level : tie.Need-cast-level Inv-loop μ-loop
+cast-level c = search needs
 
-shr-tick : tie.Need-shr-tick Inv-loop μ-loop
-shr-tick c = search needs
+shr-level : tie.Need-shr-level Inv-loop μ-loop
+shr-level c = search needs
 
-tick-requires : tie.Need-tick-requires Inv-loop μ-loop
-tick-requires c κs = search needs
+tick-either-requires : tie.Need-tick-either-requires Inv-loop μ-loop
+tick-either-requires c κs = search needs
 
 array-read-driven : tie.Need-array-read-driven Inv-loop μ-loop
 array-read-driven c = search needs
@@ -63,10 +63,10 @@ run-spec =
     μ-loop
     loop-holds
     sub-place
-    element-copy-out-tick
-    cast-tick
-    shr-tick
-    tick-requires
+    element-copy-out-level
+    cast-level
+    shr-level
+    tick-either-requires
     array-read-driven
     cast-driven
     cast-driven-2
