@@ -11,12 +11,12 @@ use lib.Seq.{drop-cons}
 use Rattle.laws.specs.Bit.{bit}
 use Rattle.laws.proofs.Picked.{on-true, on-false}
 use Rattle.fsm.specs.Starting.{startTx}
-use Rattle.fsm.specs.Ticking.{isRx, ticked}
+use Rattle.fsm.specs.Ticking.{ticked}
 use Rattle.fsm.specs.declared.DaliBitbangPhy.{DaliBitbangPhy}
 use Rattle.fsm.specs.declared.Started.{Started}
 use Rattle.fsm.specs.declared.Ticked.{Ticked}
 use Rattle.timed_ticks.specs.declared.Pass.{Pass}
-use Rattle.timed_ticks.specs.Ticks.{frame, startsOf, readied, levelOf, afterTick, countedOf, oneMore, passFrom, passOf, summed, timedFrom}
+use Rattle.timed_ticks.specs.Ticks.{frame, startsOf, readied, levelOf, oneMore, passFrom, passOf, summed, timedFrom}
 
 pub bit-small : (b : Bool) → bit b ≤ 1
 bit-small true = omega arith
@@ -33,25 +33,15 @@ unfolding readied
 left-alone sends s eb e er = rw (er, on-false (sym eb ∙ e))
 
 -- ---- a pass
-pub receiving : {b : Bool} (h : ℕ) (driven : Bool) → b ≡ true → h + 1 ≡ countedOf b h driven
-unfolding countedOf
-receiving h driven e = rw (on-true e)
-
-pub driving : {b : Bool} (h : ℕ) (driven : Bool) → b ≡ false → h + bit driven ≡ countedOf b h driven
-unfolding countedOf
-driving h driven e = rw (on-false e)
-
-pass-cons : (sends : Bool) (p : Pass) (level : ℕ) (more : List ℕ)
-    → passFrom sends p (level ∷ more) ≡ passFrom sends (oneMore sends (p .highs) (readied sends (p .station)) level) more
+pass-cons : (sends : Bool) (p : Pass) (level : ℕ) (more : List ℕ) → passFrom sends p (level ∷ more) ≡ passFrom sends (oneMore sends p level) more
 unfolding passFrom
 pass-cons sends p level more = refl
 
-pub pass-on : (sends : Bool) (s : DaliBitbangPhy) (h : ℕ) (levels : List ℕ) (i : ℕ) {r : DaliBitbangPhy} {heard b : Bool} {t : Ticked} {x : DaliBitbangPhy} {k : ℕ} → i < length levels
-    → r ≡ readied sends s → heard ≡ levelOf sends (r .core .bus .«driven_high») (getD levels i 0) → b ≡ isRx (r .core .bus .«bus_state»)
-    → t ≡ ticked r heard → x ≡ t .station → k ≡ countedOf b h (t .«driven_high»)
+pub pass-on : (sends : Bool) (s : DaliBitbangPhy) (h : ℕ) (levels : List ℕ) (i : ℕ) {r : DaliBitbangPhy} {heard : Bool} {t : Ticked} {x : DaliBitbangPhy} {k : ℕ} → i < length levels
+    → r ≡ readied sends s → heard ≡ levelOf sends (r .core .bus .«driven_high») (getD levels i 0) → t ≡ ticked r heard → x ≡ t .station → k ≡ h + bit (t .«driven_high»)
     → passFrom sends (record { station = x; highs = k }) (drop (i + 1) levels) ≡ passFrom sends (record { station = s; highs = h }) (drop i levels)
-unfolding ticked afterTick
-pass-on sends s h levels i lt er eh eb et ex ek = rw (drop-cons levels i 0 lt, pass-cons, ek, ex, et, eb, eh, er, add-one i)
+unfolding oneMore
+pass-on sends s h levels i lt er eh et ex ek = rw (drop-cons levels i 0 lt, pass-cons, ek, ex, et, eh, er, add-one i)
 
 pub pass-done : (sends : Bool) (p : Pass) (levels : List ℕ) (i : ℕ) {q : Pass} → length levels ≤ i → passFrom sends p (drop i levels) ≡ q → p ≡ q
 unfolding passFrom

@@ -7,10 +7,9 @@ use lib.ListN.{getD}
 use Rattle.laws.specs.Bit.{bit}
 use Rattle.laws.specs.Pick.{pick}
 use Rattle.halfbits.specs.declared.HalfBitBuffer.{HalfBitBuffer}
-use Rattle.machine.specs.declared.BusState.{BusState}
 use Rattle.fsm.specs.Station.{eventOf}
 use Rattle.fsm.specs.Starting.{isIdle, startTx}
-use Rattle.fsm.specs.Ticking.{isRx, tickOf}
+use Rattle.fsm.specs.Ticking.{ticked}
 use Rattle.fsm.specs.declared.DaliBitbangPhy.{DaliBitbangPhy}
 use Rattle.timed_ticks.specs.declared.Pass.{Pass}
 
@@ -30,24 +29,17 @@ readied sends s = pick (startsOf sends s) (startTx s frame .station) s
 unfoldable pub levelOf : Bool → Bool → ℕ → Bool
 levelOf sends driven level = pick sends driven (not (eqb level 0))
 
-unfoldable pub afterTick : Bool → DaliBitbangPhy → ℕ → DaliBitbangPhy
-afterTick sends s level = tickOf s (levelOf sends (s .core .bus .«driven_high») level)
+-- the station that the tick leaves, and one more where it drives high
+unfoldable pub oneMore : Bool → Pass → ℕ → Pass
+oneMore sends p level =
+    let s = readied sends (p .station) in
+    let t = ticked s (levelOf sends (s .core .bus .«driven_high») level) in
+    record { station = t .station; highs = p .highs + bit (t .«driven_high») }
 
 -- ---- one pass over the levels
--- One more where the tick left the station driving high. A station that receives drives nothing, so its tick counts.
-unfoldable pub countedOf : Bool → ℕ → Bool → ℕ
-countedOf receiving highs driven = pick receiving (highs + 1) (highs + bit driven)
-
-abbrev counting : ℕ → BusState → DaliBitbangPhy → Pass
-counting highs before s = record { station = s; highs = countedOf (isRx before) highs (s .core .bus .«driven_high») }
-
-abbrev pub oneMore : Bool → ℕ → DaliBitbangPhy → ℕ → Pass
-oneMore sends highs s level = counting highs (s .core .bus .«bus_state») (afterTick sends s level)
-
--- the station, and the count
 unfoldable pub passFrom : Bool → Pass → List ℕ → Pass
 passFrom sends p [] = p
-passFrom sends p (level ∷ more) = passFrom sends (oneMore sends (p .highs) (readied sends (p .station)) level) more
+passFrom sends p (level ∷ more) = passFrom sends (oneMore sends p level) more
 
 unfoldable pub passOf : Bool → DaliBitbangPhy → List ℕ → Pass
 passOf sends s levels = passFrom sends (record { station = s; highs = 0 }) levels

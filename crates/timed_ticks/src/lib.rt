@@ -1,12 +1,12 @@
-// The station for a foreign loop that times it (bench/): ticks over the same levels again and again, and one number at the end, so that it
-// can be compared with the Rust's.
+// The station for a clock outside (bench/): ticks over the same levels again and again, and one number at the end, so that it can be compared with
+// the Rust's.
 ghost use mathlib.Core.Path.{_≡_};
 ghost use Prim.Native.Nat.{_+_, _≤_, _<_};
 ghost use lib.ListN.{getD};
 ghost use Rattle.laws.specs.Bit.{bit};
 ghost use Rattle.fsm.specs.Station.{newStation};
-ghost use Rattle.fsm.specs.Ticking.{isRx};
 ghost use Rattle.fsm.specs.Starting.{isIdle};
+ghost use Rattle.fsm.specs.Ticking.{ticked};
 ghost use Rattle.timed_ticks.specs.Ticks.{startsOf, levelOf, passOf, summed, timedFrom};
 use fsm::BusState;
 use fsm::DALI_RX_SAMPLE_BUF_LEN;
@@ -46,17 +46,6 @@ fn starts(sends: bool, station: DaliBitbangPhy) -> bool
     false
 }
 
-fn is_rx(bus_state: BusState) -> bool
-    ensures { λ r. ⌜ r ≡ isRx «bus_state» ⌝ }
-{
-    match bus_state {
-        BusState::Idle => false,
-        BusState::Rx => true,
-        BusState::Tx => false,
-        BusState::CollisionTx => false,
-    }
-}
-
 fn level_of(sends: bool, driven_high: bool, level: u8) -> bool
     ensures { λ r. ⌜ r ≡ levelOf sends «driven_high» level ⌝ }
 {
@@ -76,8 +65,7 @@ fn counted(highs: u32, driven_high: bool) -> u32
     highs
 }
 
-// Three forms spare each tick copies of both captures: `tick` is called in one place, a start changes the loop's own station, and a station
-// that was receiving is taken back in an arm of its own (the tick of any other writes to no capture).
+// One tick after the other, each on the station that the one before it left.
 fn one_pass(sends: bool, from: DaliBitbangPhy, levels: &[u8; LEVELS]) -> Pass
     ensures { λ r. ⌜ r ≡ passOf sends from (now (levels .entry)) ⌝ }
     ensures { λ r. ⌜ r .highs ≤ 4096 ⌝ }
@@ -92,16 +80,9 @@ fn one_pass(sends: bool, from: DaliBitbangPhy, levels: &[u8; LEVELS]) -> Pass
             let started = station.start_tx(FRAME);
             station = started.station;
         }
-        let heard = level_of(sends, station.driven_high(), level);
-        let receiving = is_rx(station.bus_state());
-        let ticked = station.tick(heard);
-        if receiving {
-            station = ticked.station;
-            highs += 1;
-        } else {
-            station = ticked.station;
-            highs = counted(highs, ticked.driven_high);
-        }
+        let ticked = station.tick(level_of(sends, station.driven_high(), level));
+        station = ticked.station;
+        highs = counted(highs, ticked.driven_high);
         i += 1;
     }
     Pass { station, highs }
@@ -143,4 +124,14 @@ pub extern "C" fn timed_ticks(levels: &[u8; LEVELS], passes: u32, sends: bool) -
         sum = sum_of(sum, left, pass);
     }
     sum
+}
+
+// The level that a new station drives after one tick, by the form that firmware calls. It holds `host::tick` in the library, where bench/native
+// finds it for a clock that calls it one tick at a time.
+#[no_mangle]
+pub extern "C" fn first_level(bus_is_high: bool) -> bool
+    ensures { λ r. ⌜ r ≡ ticked newStation «bus_is_high» .«driven_high» ⌝ }
+{
+    let ticked = host::tick_lent(DaliBitbangPhy::new(), bus_is_high);
+    ticked.driven_high
 }

@@ -6,7 +6,7 @@ use Prim.Native.Nat.{_≤_, _-_}
 use native.Mathlib.Omega.{arith}
 use lib.ListN.{drop, length}
 use Rattle.timed_ticks.specs.Ticks.{frame, passFrom, passOf}
-use Rattle.timed_ticks.proofs.Turns.{bit-small, started, left-alone, receiving, driving, pass-on, pass-done}
+use Rattle.timed_ticks.proofs.Turns.{bit-small, started, left-alone, pass-on, pass-done}
 use Rattle.timed_ticks.proofs.one_pass.Statement.{statement}
 use Rattle.timed_ticks.proofs.one_pass.Tie as tie
 
@@ -36,17 +36,8 @@ driven-high-requires c κs = search needs
 level-of-requires : tie.Need-level-of-requires Inv-loop μ-loop
 level-of-requires c κs = search needs
 
-bus-state-requires : tie.Need-bus-state-requires Inv-loop μ-loop
-bus-state-requires c κs = search needs
-
-is-rx-requires : tie.Need-is-rx-requires Inv-loop μ-loop
-is-rx-requires c κs = search needs
-
 tick-requires : tie.Need-tick-requires Inv-loop μ-loop
 tick-requires c κs = search needs
-
-add-highs : tie.Need-add-highs Inv-loop μ-loop
-add-highs c = omega arith
 
 counted-requires : tie.Need-counted-requires Inv-loop μ-loop
 counted-requires c κs = search needs
@@ -60,21 +51,20 @@ loop-less c = omega arith
 loop-again : tie.Need-loop-again Inv-loop μ-loop
 unfolding frame
 loop-again c =
-    let asked = c .before .before in
-    let heard = asked .before .before in
+    let told = c .before .before in
+    let heard = told .before in
     let joined = heard .before .before in
     let tested = joined .before in
     let at = tested .before .before .before in (
       omega arith,
-      ⊎-elim (λ w. omega arith) (λ w. omega (arith, bit-small (c .before .tick .result .«driven_high»))) (c .if2 .came),
+      omega (arith, bit-small (told .tick .result .«driven_high»)),
       at .loop .inv .2,
       pass-on _ _ _ _ (at .loop .i) (omega arith)
           (⊎-elim (λ w. started _ _ (tested .starts .ensures) (w .0 .taken) (w .1 .ensures .0) (w .3)) (λ w. left-alone _ _ (tested .starts .ensures) (w .0 .left) (w .1)) (joined .if1 .came))
           (heard .level-of .ensures ∙ rw (heard .before .driven-high .ensures))
-          (asked .is-rx .ensures ∙ rw (asked .before .bus-state .ensures))
-          (c .before .tick .ensures)
-          (⊎-elim (λ w. w .2) (λ w. w .3) (c .if2 .came))
-          (⊎-elim (λ w. w .3 ∙ receiving _ _ (w .0 .taken)) (λ w. w .4 ∙ w .2 .ensures ∙ driving _ _ (w .0 .left)) (c .if2 .came))
+          (told .tick .ensures)
+          refl
+          (c .counted .ensures)
           ∙ at .loop .inv .3,
     )
 
@@ -93,10 +83,7 @@ one-pass-spec =
     start-tx-requires
     driven-high-requires
     level-of-requires
-    bus-state-requires
-    is-rx-requires
     tick-requires
-    add-highs
     counted-requires
     add-i
     loop-less
