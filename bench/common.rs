@@ -1,6 +1,6 @@
 //! What the programs that time the proved code beside the Rust share.
 
-use std::time::{Duration, Instant};
+use std::time::Duration;
 
 pub const ROUNDS: usize = 25;
 
@@ -55,7 +55,27 @@ pub fn ratios(mut rust: impl FnMut() -> u64, mut proved: impl FnMut() -> u64) ->
 }
 
 fn timed(call: &mut impl FnMut() -> u64) -> (Duration, u64) {
-    let start = Instant::now();
+    let start = processor_time();
     let answer = call();
-    (start.elapsed(), answer)
+    (processor_time() - start, answer)
+}
+
+/// What this thread has had of the processor, so that what others run meanwhile does not count.
+fn processor_time() -> Duration {
+    #[repr(C)]
+    struct Time {
+        seconds: i64,
+        nanoseconds: i64,
+    }
+    extern "C" {
+        fn clock_gettime(clock: i32, time: &mut Time) -> i32;
+    }
+    const THREAD_CPUTIME_ID: i32 = 3;
+    let mut time = Time {
+        seconds: 0,
+        nanoseconds: 0,
+    };
+    let status = unsafe { clock_gettime(THREAD_CPUTIME_ID, &mut time) };
+    assert_eq!(status, 0, "the thread's processor time can't be had");
+    Duration::new(time.seconds as u64, time.nanoseconds as u32)
 }
