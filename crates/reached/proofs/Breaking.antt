@@ -132,7 +132,7 @@ polled-ok t calm e = go (eqb (t .core .told .«tx_collision») 0) refl
     go false some = rw (told t calm some) (clear-ok _ calm refl e)
 
 refused : (t : DaliBitbangPhy) → IsBreaking t → (hb : HalfBitBuffer) → (numberOf (startTx t hb .answer) ≡ 7) × (numberOf (startAnswer t hb .answer) ≡ 7)
-unfolding isIdle hears numberOf
+unfolding isIdle hears
 refused t e hb =
     (ap (λ (x : Started). numberOf (x .answer)) (tx-refused t hb (ap isIdle e)), ap (λ (x : Started). numberOf (x .answer)) (answer-refused t hb (ap hears e)))
 
