@@ -36,7 +36,7 @@ pub says-found : (ended : Found) → SaysFound (acceptedOf ended) ended
 unfolding SaysFound acceptedOf
 says-found Nothing = λ d e. none-such d e
 says-found (Decode d) =
-    cases (λ r. SaysFound r (Decode d)) (ltb (d .«bit_len») 3)
+    cases (λ r. SaysFound r (Decode d)) _
     (λ few. λ e h. rw (← same-decode d e h) (ltb-true _ _ few))
     (λ enough. (refl, ltb-false _ _ enough))
 

@@ -96,7 +96,7 @@ abbrev pub orLater : PhaseSearch → PhaseSearch → PhaseSearch
 orLater Searching later = later
 orLater (Done answer) later = Done answer
 
--- what the first of n steps in one window says that says Done, and Searching if none does
+-- the answer of the first of n steps in one window that says Done; Searching if none does
 unfoldable pub firstDone : ℕ → BestPhaseSearch → SampleWindow → PhaseSearch
 firstDone zero s w = Searching
 firstDone (suc n) s w = orLater (stepOf s w .answer) (firstDone n (stepOf s w .search) w)
@@ -106,6 +106,6 @@ abbrev pub handedOut : PhaseSearch → SearchAnswer
 handedOut Searching = record { found = Nothing; steps = 0 }
 handedOut (Done answer) = answer
 
--- A run takes steps until one says Done, and hands that answer out. Of five steps of any search one says Done: the promise of `run` says so.
+-- A run takes steps until one says Done, and hands that answer out. One of five does, whatever the search: the promise of `run` says so too.
 unfoldable pub runOf : BestPhaseSearch → SampleWindow → SearchAnswer
 runOf s w = handedOut (firstDone 5 s w)

@@ -68,7 +68,8 @@ LaterStepsRepeat =
 abbrev pub FirstIsNotKept : Type 0
 FirstIsNotKept = (m : BitLengths) (w : SampleWindow) → stepOf (newOf m) w .search ≡ searchWith m 1 Nothing
 
--- A decode that is handed out has three bits or more, and one of the windows reads it, at phase 0 or at one of the scan.
+-- A decode that is handed out has three bits or more, and one of the windows reads it, at phase 0 or at one of the scan. (`List·Memᴰ x xs`: x
+-- stands in the list xs.)
 abbrev pub DecodesAreRead : Type 0
 DecodesAreRead =
     (m : BitLengths) (ws : List SampleWindow) (w : SampleWindow) (a : SearchAnswer) (d : PhaseDecode)
