@@ -1,0 +1,106 @@
+-- `text::hex::fill` meets its contract. Assumes nothing.
+use mathlib.Core.Path.{_≡_}
+use mathlib.Core.Bool.{true}
+use mathlib.Core.List.{_++_}
+use Prim.Native.Nat.{_+_, _*_, _-_, _≤_, _<_}
+use native.Mathlib.Omega.{arith}
+use lib.ListN.{length, take, drop, length-set}
+use Rattle.text.specs.Hex.{allHex, bytesOf}
+use Rattle.text.proofs.HexLaws.{bytes-on, top-small, low-small, still-hex, all-spelled}
+use borrow.Author.Needs.{needs}
+use Rattle.text.proofs.hex.fill.Statement.{statement}
+use Rattle.text.proofs.hex.fill.Tie as tie
+
+abbrev Inv-loop : tie.InvT-loop
+Inv-loop field bytes₀ i₀ bytes i =
+    (i ≤ length bytes₀) × (length bytes ≡ length bytes₀) × (take i bytes ++ bytesOf (drop (2 * i) field) ≡ bytesOf field) × (allHex (drop (2 * i) field) ≡ true)
+
+abbrev μ-loop : tie.MeasureT-loop
+μ-loop field bytes₀ i₀ bytes i = length bytes₀ - i
+
+loop-holds : tie.Need-loop-holds Inv-loop μ-loop
+loop-holds c = (omega arith, search needs, search needs, c .before .before .pre .1)
+
+mul-digit-value : tie.Need-mul-digit-value Inv-loop μ-loop
+mul-digit-value c = search needs
+
+shared-slice-read-digit-value : tie.Need-shared-slice-read-digit-value Inv-loop μ-loop
+shared-slice-read-digit-value c = search needs
+
+digit-value-requires : tie.Need-digit-value-requires Inv-loop μ-loop
+digit-value-requires c κs = search needs
+
+mul-digit-value-2 : tie.Need-mul-digit-value-2 Inv-loop μ-loop
+mul-digit-value-2 c = search needs
+
+add-digit-value : tie.Need-add-digit-value Inv-loop μ-loop
+add-digit-value c = search needs
+
+shared-slice-read-digit-value-2 : tie.Need-shared-slice-read-digit-value-2 Inv-loop μ-loop
+shared-slice-read-digit-value-2 c = search needs
+
+digit-value-requires-2 : tie.Need-digit-value-requires-2 Inv-loop μ-loop
+digit-value-requires-2 c κs = search needs
+
+mul-bytes : tie.Need-mul-bytes Inv-loop μ-loop
+mul-bytes c =
+    let at = c .before .before .before .before .before .loop in
+    let field = c .before .before .before .before .before .before .before .before .args .field .now in
+    let more : 2 * at .i + 1 < length field = omega arith in
+    record { fits = omega (arith, top-small field (at .i) more (at .inv .3), c .before .before .digit-value .ensures) }
+
+add-bytes : tie.Need-add-bytes Inv-loop μ-loop
+add-bytes c =
+    let at = c .before .before .before .before .before .loop in
+    let field = c .before .before .before .before .before .before .before .before .args .field .now in
+    let more : 2 * at .i + 1 < length field = omega arith in
+    record { fits = omega (arith, top-small field (at .i) more (at .inv .3), low-small field (at .i) more (at .inv .3), c .before .before .digit-value .ensures, c .digit-value2 .ensures) }
+
+slice-write-bytes : tie.Need-slice-write-bytes Inv-loop μ-loop
+slice-write-bytes c = search needs
+
+add-i : tie.Need-add-i Inv-loop μ-loop
+add-i c = search needs
+
+loop-less : tie.Need-loop-less Inv-loop μ-loop
+loop-less c = search needs
+
+loop-again : tie.Need-loop-again Inv-loop μ-loop
+loop-again c =
+    let at = c .before .before .before .before .before .loop in
+    let field = c .before .before .before .before .before .before .before .before .args .field .now in
+    let more : 2 * at .i + 1 < length field = omega arith in (
+      omega arith,
+      simp length-set (at .inv .1),
+      bytes-on field (at .i) more _ _ (c .before .before .digit-value .ensures) (c .digit-value2 .ensures) (at .bytes) (omega arith) (at .inv .2),
+      still-hex field (at .i) more (at .inv .3),
+    )
+
+same-length : tie.Need-same-length Inv-loop μ-loop
+same-length c = search needs
+
+returns : tie.Need-returns Inv-loop μ-loop
+returns c = let at = c .before .loop in all-spelled _ (at .bytes) (at .i) (omega arith) (omega arith) (at .inv .2)
+
+pub fill-spec : {M : Type 1} → statement M
+fill-spec =
+    tie.close
+    (tie.spec
+    Inv-loop
+    μ-loop
+    loop-holds
+    mul-digit-value
+    shared-slice-read-digit-value
+    digit-value-requires
+    mul-digit-value-2
+    add-digit-value
+    shared-slice-read-digit-value-2
+    digit-value-requires-2
+    mul-bytes
+    add-bytes
+    slice-write-bytes
+    add-i
+    loop-less
+    loop-again
+    same-length
+    returns)

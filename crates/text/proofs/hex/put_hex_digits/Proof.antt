@@ -1,0 +1,93 @@
+-- `text::hex::put_hex_digits` meets its contract. Assumes nothing.
+use mathlib.Core.Path.{_≡_, refl}
+use Prim.Native.Nat.{_+_, _≤_}
+use native.Mathlib.Omega.{arith}
+use lib.ListN.{length, length-set}
+use lib.Seq.{sets}
+use Rattle.text.specs.Hex.{hexDigitsOf}
+use Rattle.text.proofs.WritingLaws.{enough, too-little, unwritten, written}
+use Rattle.text.proofs.Digits.{stored-on, stored-end}
+use Rattle.text.proofs.HexLaws.{last-hexes, length-hex-digits}
+use borrow.Author.Needs.{needs}
+use Rattle.text.proofs.hex.put_hex_digits.Statement.{statement}
+use Rattle.text.proofs.hex.put_hex_digits.Tie as tie
+
+abbrev Inv-loop : tie.InvT-loop
+Inv-loop out₀ at number width i₀ rest₀ out i rest =
+    (at + width ≤ length out₀) × (i ≤ width) × (length out ≡ length out₀) × (sets out at (hexDigitsOf i rest) ≡ sets out₀ at (hexDigitsOf width number))
+
+abbrev μ-loop : tie.MeasureT-loop
+μ-loop out₀ at number width i₀ rest₀ out i rest = i
+
+has-room-requires : tie.Need-has-room-requires Inv-loop μ-loop
+has-room-requires c κs = search needs
+
+returns : tie.Need-returns Inv-loop μ-loop
+returns c =
+    let a = c .before .before .before .args in
+    let text = hexDigitsOf (a .width) (a .number) in
+    let over = too-little (a .width) (a .at) (a .out .now) (c .before .has-room .ensures) (c .if1 .taken) in
+    unwritten (length text) text (a .at) (a .out .now) (rw (length-hex-digits (a .width) (a .number)) over)
+
+loop-holds : tie.Need-loop-holds Inv-loop μ-loop
+loop-holds c =
+    let a = c .before .before .before .args in
+    (enough (a .width) (a .at) (a .out .now) (c .before .has-room .ensures) (c .if1 .left), omega arith, refl, refl)
+
+sub-i : tie.Need-sub-i Inv-loop μ-loop
+sub-i c = search needs
+
+cast-hex-digit : tie.Need-cast-hex-digit Inv-loop μ-loop
+cast-hex-digit c = search needs
+
+hex-digit-requires : tie.Need-hex-digit-requires Inv-loop μ-loop
+hex-digit-requires c κs = search needs
+
+add-out : tie.Need-add-out Inv-loop μ-loop
+add-out c = search needs
+
+slice-write-out : tie.Need-slice-write-out Inv-loop μ-loop
+slice-write-out c = search needs
+
+loop-less : tie.Need-loop-less Inv-loop μ-loop
+loop-less c = search needs
+
+loop-again : tie.Need-loop-again Inv-loop μ-loop
+loop-again c =
+    let at = c .before .before .loop in
+    (at .inv .0, omega arith, simp length-set (at .inv .2), stored-on last-hexes (at .out) _ _ (at .i) (at .rest) (c .before .loop-test .taken) (c .hex-digit .ensures) (at .inv .3))
+
+add-result : tie.Need-add-result Inv-loop μ-loop
+add-result c = search needs
+
+same-length : tie.Need-same-length Inv-loop μ-loop
+same-length c = search needs
+
+returns-2 : tie.Need-returns-2 Inv-loop μ-loop
+returns-2 c =
+    let a = c .before .before .before .before .before .args in
+    let text = hexDigitsOf (a .width) (a .number) in
+    let long = length-hex-digits (a .width) (a .number) in
+    let at = c .before .loop in
+    written (length text) text (a .at) (a .out .now) (omega arith)
+    (omega arith, stored-end last-hexes (at .out) _ (a .at) (at .i) (at .rest) (c .loop-test .left) (at .inv .3))
+
+pub put-hex-digits-spec : {M : Type 1} → statement M
+put-hex-digits-spec =
+    tie.close
+    (tie.spec
+    Inv-loop
+    μ-loop
+    has-room-requires
+    returns
+    loop-holds
+    sub-i
+    cast-hex-digit
+    hex-digit-requires
+    add-out
+    slice-write-out
+    loop-less
+    loop-again
+    add-result
+    same-length
+    returns-2)

@@ -1,0 +1,17 @@
+-- `text::writing::has_room` meets its contract. Assumes nothing.
+use mathlib.Core.Path.{sym}
+use Prim.Native.Nat.{_+_}
+use native.Mathlib.Omega.{arith}
+use borrow.Author.Tests.{lt-leb}
+use Rattle.text.proofs.WritingLaws.{without}
+use Rattle.text.proofs.writing.has_room.Statement.{statement}
+use Rattle.text.proofs.writing.has_room.Tie as tie
+
+returns : tie.Need-returns
+returns c = let a = c .before .args in sym (lt-leb (a .at + a .bytes) (a .len) (omega arith))
+
+returns-2 : tie.Need-returns-2
+returns-2 c = let a = c .before .args in without (a .at) (a .bytes) (a .len) (c .if1 .left)
+
+pub has-room-spec : {M : Type 1} → statement M
+has-room-spec = tie.close (tie.spec returns returns-2)

@@ -1,0 +1,9 @@
+pub mod Letters
+pub mod Fields
+pub mod Words
+pub mod Decimals
+pub mod Signed
+pub mod Hex
+pub mod Writing
+pub mod ReadBack
+pub mod Code

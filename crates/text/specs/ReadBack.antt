@@ -1,0 +1,48 @@
+-- What is written is read back. Assumes nothing.
+use Prim.Native.Nat.{ℕ, _^_, _≤_, _<_}
+use mathlib.Core.Bool.{true, false}
+use mathlib.Core.List.{List, [], _∷_}
+use mathlib.Core.Path.{_≡_}
+use lib.Dec.{eqb}
+use lib.IntN.{ℤ, pos, negsuc}
+use lib.ListN.{length, getD}
+use Rattle.text.specs.Fields.{fieldsAt, joinedBy}
+use Rattle.text.specs.Words.{sameText}
+use Rattle.text.specs.Decimals.{isDecimal, valueOf, decimalOf}
+use Rattle.text.specs.Signed.{signedIn, signedOf}
+use Rattle.text.specs.Hex.{allHex, bytesOf, hexesOf, hexNumberIn, hexDigitsOf}
+use Rattle.text.specs.declared.signed.Signed.the-variants.{Is as a-signed}
+use Rattle.text.specs.declared.hex.HexNumber.the-variants.{Is as a-number}
+
+-- no byte of a text is the mark
+abbrev pub Without : ℕ → List ℕ → Type 0
+Without mark text = (i : ℕ) → i < length text → eqb (getD text i 0) mark ≡ false
+
+-- of fields without the mark, at least one
+abbrev pub FieldsBack : Type 0
+FieldsBack =
+    (mark : ℕ) (field : List ℕ) (fields : List (List ℕ)) → ((i : ℕ) → Without mark (getD (field ∷ fields) i []))
+    → fieldsAt mark (joinedBy mark (field ∷ fields)) ≡ field ∷ fields
+
+-- A word is itself, and no other text is.
+abbrev pub WordsBack : Type 0
+WordsBack = ((word : List ℕ) → sameText word word ≡ true) × ((field word : List ℕ) → sameText field word ≡ true → field ≡ word)
+
+-- Of a number of 32 bits the digits are written, without leading zeros.
+abbrev pub DecimalsBack : Type 0
+DecimalsBack = (n : ℕ) → n < 2 ^ 32 → (isDecimal (decimalOf n) ≡ true) × (valueOf (decimalOf n) ≡ n)
+
+abbrev pub SignedBack : Type 0
+SignedBack =
+    ((n : ℕ) → n ≤ 127 → signedIn (signedOf (pos n)) ≡ a-signed (pos n))
+    × ((n : ℕ) → n ≤ 127 → signedIn (signedOf (negsuc n)) ≡ a-signed (negsuc n))
+
+-- no number of the list is above 255
+abbrev pub AllBytes : List ℕ → Type 0
+AllBytes numbers = (i : ℕ) → getD numbers i 0 < 256
+
+abbrev pub HexBack : Type 0
+HexBack = (bytes : List ℕ) → AllBytes bytes → (allHex (hexesOf bytes) ≡ true) × (bytesOf (hexesOf bytes) ≡ bytes)
+
+abbrev pub HexNumbersBack : Type 0
+HexNumbersBack = (width number : ℕ) → width ≤ 16 → number < 16 ^ width → hexNumberIn width (hexDigitsOf width number) ≡ a-number number

@@ -1,0 +1,26 @@
+-- Signed numbers from -128 to 127: decimals, those below 0 with a minus in front. Assumes nothing.
+use Prim.Native.Nat.{ℕ, suc}
+use mathlib.Core.Bool.{_&&_}
+use mathlib.Core.List.{List, [], _∷_}
+use lib.Dec.{eqb, ltb}
+use lib.IntN.{ℤ, pos, negsuc, negℤ}
+use lib.ListN.{getD, drop}
+use Rattle.laws.specs.Pick.{pick}
+use Rattle.text.specs.Letters.{minus}
+use Rattle.text.specs.Decimals.{valueOf, isUpTo, decimalOf}
+use Rattle.text.specs.declared.signed.Signed.{Signed}
+use Rattle.text.specs.declared.signed.Signed.the-variants.{Is as a-number, Bad as no-number}
+
+-- ---- reading
+-- from -1 to -128, by the digits behind the minus: 0 has no minus
+unfoldable pub belowZero : List ℕ → Signed
+belowZero digits = pick (isUpTo 128 digits && ltb 0 (valueOf digits)) (a-number (negℤ (pos (valueOf digits)))) no-number
+
+unfoldable pub signedIn : List ℕ → Signed
+signedIn field =
+    pick (eqb (getD field 0 0) minus) (belowZero (drop 1 field)) (pick (isUpTo 127 field) (a-number (pos (valueOf field))) no-number)
+
+-- ---- writing
+unfoldable pub signedOf : ℤ → List ℕ
+signedOf (pos n) = decimalOf n
+signedOf (negsuc n) = minus ∷ decimalOf (suc n)
