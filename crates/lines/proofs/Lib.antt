@@ -1,0 +1,5 @@
+pub mod AnyChunks
+mod Kept
+pub mod Rooms
+pub mod Sole
+pub mod Steps

@@ -1,0 +1,4 @@
+pub mod Lines
+pub mod Chunk
+pub mod AnyChunks
+pub mod Constants

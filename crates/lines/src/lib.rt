@@ -1,0 +1,102 @@
+// Bytes that come in chunks of any size, as lines. `Lines` is what waits of a line whose end has not come, by value; `take` adds to it from a chunk,
+// one line at a time. Where the input is cut into chunks makes no difference.
+ghost use mathlib.Core.Path.{_≡_};
+ghost use Prim.Native.Nat.{_+_, _-_, _≤_, min};
+ghost use lib.ListN.{length, take as first};
+ghost use lib.Seq.{sets};
+ghost use Rattle.lines.specs.Constants.{publicConstants};
+ghost use Rattle.lines.specs.Lines.{lineRoom, newLines, heldBy, kept, partFrom, taken};
+use text::fields;
+
+// Room for the longest line that counts, of 2,047 bytes, and one byte more, which tells that a line is longer.
+pub const LINE_ROOM: usize = 2_048;
+
+// Nobody calls this: its promise says what each public constant is.
+fn constants() -> PublicConstants
+    ensures { λ r. ⌜ r ≡ publicConstants ⌝ }
+{
+    PublicConstants {
+        line_room: LINE_ROOM,
+    }
+}
+
+struct PublicConstants {
+    line_room: usize,
+}
+
+// The first `len` bytes are those of the line whose end has not come, as far as there is room.
+pub struct Lines {
+    pub held: [u8; LINE_ROOM],
+    pub len: usize,
+}
+
+// What `take` answers: how many bytes wait now, the place in the chunk to go on from, and whether the line has ended.
+pub struct Taken {
+    pub len: usize,
+    pub next: usize,
+    pub ended: bool,
+}
+
+impl Lines {
+    pub fn new() -> Lines
+        ensures { λ r. ⌜ r ≡ newLines ⌝ }
+    {
+        Lines {
+            held: [0; LINE_ROOM],
+            len: 0,
+        }
+    }
+}
+
+// Takes in the chunk's bytes from a place on, up to the first LF or the chunk's end. A line that has ended stands in the first bytes of `held`,
+// without its LF; the next one is taken in with a `len` of 0.
+pub fn take(held: &mut [u8; LINE_ROOM], len: usize, chunk: &[u8], from: usize) -> Taken
+    ensures { λ r. ⌜ r ≡ taken (heldBy (now (held .entry)) len) (now (chunk .entry)) from ⌝ }
+    ensures { λ r. ⌜ now (held .exit) ≡ kept (heldBy (now (held .entry)) len) (partFrom (now (chunk .entry)) from) .held ⌝ }
+{
+    if chunk.len() <= from {
+        return Taken {
+            len,
+            next: from,
+            ended: false,
+        };
+    }
+    let end = fields::find(chunk, b'\n', from);
+    let count = keep(held, len, &chunk[from..end]);
+    if end == chunk.len() {
+        return Taken {
+            len: count,
+            next: end,
+            ended: false,
+        };
+    }
+    let next = end + 1;
+    Taken {
+        len: count,
+        next,
+        ended: true,
+    }
+}
+
+// Adds bytes to those that wait, and answers how many wait then. What has no room is dropped.
+fn keep(held: &mut [u8; LINE_ROOM], len: usize, bytes: &[u8]) -> usize
+    ensures { λ r. ⌜ r ≡ len + min (length (now (bytes .entry))) (lineRoom - len) ⌝ }
+    ensures { λ r. ⌜ now (held .exit) ≡ sets (now (held .entry)) len (first (lineRoom - len) (now (bytes .entry))) ⌝ }
+{
+    if LINE_ROOM <= len {
+        return len;
+    }
+    let count = shorter(bytes.len(), LINE_ROOM - len);
+    let mut i: usize = 0;
+    while i < count {
+        held[len + i] = bytes[i];
+        i += 1;
+    }
+    len + count
+}
+
+fn shorter(a: usize, b: usize) -> usize
+    ensures { λ r. ⌜ r ≡ min a b ⌝ }
+{
+    if a < b { a } else { b }
+}
