@@ -1,66 +1,100 @@
-// The call protocol of document 04 over the proved functions: a command a line on standard input, an answer a line on standard
-// output. Here bytes are only moved: `lines` cuts them into lines, `call_commands` answers a line.
-mod lines;
+// The call protocol of document 04 over the proved functions: a command a line on standard input, an answer a line on standard output. Safety is all
+// that is proved of it. Here bytes are only moved: `commands` answers a line, `operands` reads it, `reply` writes the answer.
+mod commands;
+mod operands;
+mod reply;
 
-ghost use Rattle.calls.specs.Bounds.{Sound};
-use crate::lines::LINE_ROOM;
-use crate::lines::Line;
-use crate::lines::Session;
-use call_text::answer::Answers;
-use libc::STDIN_FILENO;
+use crate::commands::Kept;
+use crate::reply::ANSWERS_ROOM;
+use crate::reply::Answers;
+use lines::LINE_ROOM;
 
-// What one read may bring.
-type Chunk = [u8; 65_536];
+type Line = [u8; LINE_ROOM];
 
-// What one turn leaves: the session, and whether the input may have more.
-struct Turned {
-    session: Session,
-    more: bool,
+// Past this place one more answer may not fit. None has more than 2,100 bytes.
+const NEARLY_FULL: usize = ANSWERS_ROOM - 4_096;
+
+struct Session {
+    kept: Kept,
+    // How many bytes of a line wait for its end, and how many of answers to be written.
+    len: usize,
+    at: usize,
+    // Nothing has failed, and the input may have more.
+    open: bool,
 }
 
-// Reads once, and answers every line that is whole by then.
-fn turn(session: Session, chunk: &mut Chunk, line: &mut Line, out: &mut Answers) -> Turned
-    requires { ⌜ Sound session ⌝ }
-    ensures { λ r. ⌜ Sound (r .session) ⌝ }
-{
-    let got = libc::read(STDIN_FILENO, chunk);
-    if got <= 0 {
-        return Turned {
-            session,
-            more: false,
-        };
-    }
-    let bytes: &[u8] = chunk;
-    let n = io::count(got, bytes);
-    let fed = session.feed(&bytes[..n], line, out);
-    let flushed = fed.flush(out);
-    Turned {
-        session: flushed,
-        more: flushed.open,
-    }
-}
-
-// Nothing says that the input ends, so the turns are counted down from a number that no run uses up.
-fn read_all(chunk: &mut Chunk, line: &mut Line, out: &mut Answers) -> Session
-    ensures { λ r. ⌜ Sound r ⌝ }
-{
-    let mut session = Session::new();
-    let mut turns = u64::MAX;
-    while 0 < turns {
-        let turned = turn(session, chunk, line, out);
-        session = turned.session;
-        if !turned.more {
-            break;
-        }
-        turns -= 1;
+// Answers the line that waits.
+fn end_line(mut session: Session, line: &Line, out: &mut Answers) -> Session {
+    let answer = commands::answered(operands::first(line, session.len), session.kept);
+    let end = reply::put(out, session.at, answer);
+    session.at = text::writing::put_byte(out, end, b'\n');
+    let kept = answer.kept;
+    session.kept = kept;
+    session.len = 0;
+    if NEARLY_FULL < session.at {
+        return flush(session, out);
     }
     session
 }
 
+// Writes the answers that wait, unless a write has failed.
+fn flush(mut session: Session, out: &Answers) -> Session {
+    session.open = session.open && stdio::write_text(operands::first(out, session.at));
+    session.at = 0;
+    session
+}
+
+// Answers every line that ends in a chunk. Each turn takes a byte at least.
+fn take_in(mut session: Session, chunk: &[u8], line: &mut Line, out: &mut Answers) -> Session {
+    let mut from = 0;
+    while from < chunk.len() {
+        let taken = lines::take(line, session.len, chunk, from);
+        session.len = taken.len;
+        if taken.ended {
+            session = end_line(session, line, out);
+        }
+        if taken.next <= from {
+            return session;
+        }
+        from = taken.next;
+    }
+    flush(session, out)
+}
+
+// Reads once, and answers the lines that are whole by then. At the input's end a last line without its LF is answered too.
+fn turn(
+    mut session: Session,
+    number: u64,
+    chunk: &mut Answers,
+    line: &mut Line,
+    out: &mut Answers,
+) -> Session {
+    let report = stdio::read_chunk(number, chunk);
+    if let stdio::Report::Bytes(count) = report {
+        return take_in(session, operands::first(chunk, count), line, out);
+    }
+    if 0 < session.len {
+        session = flush(end_line(session, line, out), out);
+    }
+    session.open = false;
+    session
+}
+
+// Nothing says that the input ends, so the reads are counted up to a number that no run comes to.
 fn main() {
-    let mut chunk = io::large_buffer();
+    let mut chunk = [0u8; ANSWERS_ROOM];
     let mut line = [0u8; LINE_ROOM];
-    let mut out = io::large_buffer();
-    let session = read_all(&mut chunk, &mut line, &mut out);
-    session.finish(&line, &mut out);
+    let mut out = [0u8; ANSWERS_ROOM];
+    let mut session = Session {
+        kept: Kept::new(),
+        len: 0,
+        at: 0,
+        open: true,
+    };
+    for number in 0..u64::MAX {
+        session = turn(session, number, &mut chunk, &mut line, &mut out);
+        if !session.open {
+            return;
+        }
+    }
 }

@@ -9,6 +9,7 @@ use crate::station::{Call, HalfBits, Start};
 pub const LONGEST_LINE: usize = 2047;
 pub const SAMPLES: usize = 64;
 pub const MOST_TICKS: usize = 4096;
+pub const MOST_STEP_CALLS: u8 = 8;
 
 #[derive(Clone, PartialEq, Eq)]
 pub struct Capture {
@@ -276,7 +277,7 @@ impl Command {
             },
             b"steps" => Command::Steps {
                 mask: fields.mask()?,
-                k: fields.u8()?,
+                k: fields.step_calls()?,
                 capture: fields.capture()?,
             },
             b"bsnew" => Command::BsNew {
@@ -471,6 +472,10 @@ impl<'a> Fields<'a> {
 
     fn u16(&mut self) -> Option<u16> {
         decimal(self.next()?, u32::from(u16::MAX)).map(|value| value as u16)
+    }
+
+    fn step_calls(&mut self) -> Option<u8> {
+        self.u8().filter(|calls| *calls <= MOST_STEP_CALLS)
     }
 
     fn i8(&mut self) -> Option<i8> {

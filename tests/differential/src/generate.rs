@@ -292,6 +292,7 @@ fn any_mask(random: &mut Random) -> u32 {
     }
 }
 
+/// Now and then there are more of them than a line may ask for.
 fn any_step_count(random: &mut Random) -> u8 {
     match random.below(40) {
         0 => random.byte(),

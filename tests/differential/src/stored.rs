@@ -304,7 +304,7 @@ fn ends_at_the_pad(lines: &mut Lines) {
 fn search_edges(lines: &mut Lines) {
     let mut random = Random::new(SEED + 1);
     let capture = wave(&[0xFE, 0x01]);
-    for k in (0..=8).chain([255]) {
+    for k in (0..=9).chain([255]) {
         lines.push(steps(SNIFFED, k, &capture));
         lines.push(steps(0, k, &capture));
     }

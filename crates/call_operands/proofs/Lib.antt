@@ -1,3 +1,0 @@
-pub mod Masks
-pub mod Readers
-pub mod Sole
