@@ -1,6 +1,3 @@
-pub mod Decimals
-pub mod Lengths
-pub mod Phases
-pub mod ReadBack
+pub mod Lines
+pub mod Longest
 pub mod Sole
-pub mod Writes

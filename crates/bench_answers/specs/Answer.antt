@@ -1,94 +1,72 @@
 -- Document 01, "The bench reader": what an answer line says. Assumes nothing.
-use Prim.Native.Nat.{ℕ, zero, suc, _+_, _*_, _/_, _%_}
-use mathlib.Core.Bool.{Bool}
+use Prim.Native.Nat.{ℕ, _*_, _/_, _%_}
 use mathlib.Core.List.{List, [], _∷_, _++_}
-use lib.Dec.{ltb, leb}
-use lib.IntN.{ℤ, pos, negsuc}
-use lib.ListN.{length}
-use lib.Seq.{sets}
-use Rattle.laws.specs.Pick.{pick}
+use Rattle.text.specs.Letters.{word, tab, lf}
+use Rattle.text.specs.Fields.{joinedBy}
+use Rattle.text.specs.Decimals.{decimalOf}
+use Rattle.text.specs.Signed.{signedOf}
+use Rattle.text.specs.Hex.{hexesOf}
 use Rattle.rx_decode.specs.declared.SniffedFrame.{SniffedFrame}
 use Rattle.rx_decode.specs.declared.SniffedFrame.the-variants.{Forward16, Backward8, Forward24, UnsupportedLength, DecodeFailed}
-use Rattle.rx_decode.specs.declared.SniffedDecode.{SniffedDecode}
-
--- ---- numbers
--- The last digit of a number stands behind the digits of its tenth; a number below ten is its only digit. At most so many are written.
-unfoldable pub decimalIn : ℕ → ℕ → List ℕ
-decimalIn zero n = []
-decimalIn (suc most) n = pick (ltb n 10) ((48 + n) ∷ []) (decimalIn most (n / 10) ++ ((48 + n % 10) ∷ []))
-
--- every number of 32 bits has its digits among ten
-abbrev pub decimalOf : ℕ → List ℕ
-decimalOf n = decimalIn 10 n
-
--- a lower-case hex digit
-unfoldable pub hexDigit : ℕ → ℕ
-hexDigit n = pick (ltb n 10) (48 + n) (87 + n)
-
-unfoldable pub hexOf : ℕ → List ℕ
-hexOf byte = hexDigit (byte / 16) ∷ hexDigit (byte % 16) ∷ []
-
--- a phase in ticks, a minus (45) in front of one below 0
-unfoldable pub phaseText : ℤ → List ℕ
-phaseText (pos n) = decimalOf n
-phaseText (negsuc n) = 45 ∷ decimalOf (suc n)
+use Rattle.bench_text.specs.declared.Capture.{Capture}
+use Rattle.bench_text.specs.declared.Refusal.{Refusal}
+use Rattle.bench_text.specs.Rules.{refusalNumber}
+use Rattle.bench_reading.specs.declared.Reading.{Reading}
+use Rattle.bench_answers.specs.declared.Counts.{Counts}
 
 -- ---- kind and data
--- B8, F16, F24, LEN, FAIL
 unfoldable pub kindText : SniffedFrame → List ℕ
-kindText (Backward8 byte) = 66 ∷ 56 ∷ []
-kindText (Forward16 word) = 70 ∷ 49 ∷ 54 ∷ []
-kindText (Forward24 first second third) = 70 ∷ 50 ∷ 52 ∷ []
-kindText (UnsupportedLength bits) = 76 ∷ 69 ∷ 78 ∷ []
-kindText DecodeFailed = 70 ∷ 65 ∷ 73 ∷ 76 ∷ []
+kindText (Backward8 byte) = word "B8"
+kindText (Forward16 bits) = word "F16"
+kindText (Forward24 first second third) = word "F24"
+kindText (UnsupportedLength bits) = word "LEN"
+kindText DecodeFailed = word "FAIL"
 
 -- a frame's bytes in hex, the first first; another length in decimal; a minus where nothing was read
 unfoldable pub dataText : SniffedFrame → List ℕ
-dataText (Backward8 byte) = hexOf byte
-dataText (Forward16 word) = hexOf (word / 256) ++ hexOf (word % 256)
-dataText (Forward24 first second third) = hexOf first ++ hexOf second ++ hexOf third
+dataText (Backward8 byte) = hexesOf (byte ∷ [])
+dataText (Forward16 bits) = hexesOf (bits / 256 ∷ bits % 256 ∷ [])
+dataText (Forward24 first second third) = hexesOf (first ∷ second ∷ third ∷ [])
 dataText (UnsupportedLength bits) = decimalOf bits
-dataText DecodeFailed = 45 ∷ []
+dataText DecodeFailed = word "-"
 
--- ---- the three answer lines; a tab (9) stands between fields, and LF (10) ends the line
-abbrev pub tab : List ℕ
-tab = 9 ∷ []
-
-abbrev pub lf : List ℕ
-lf = 10 ∷ []
+-- ---- the three answer lines
+-- a tab stands between fields, and LF ends the line
+abbrev pub lineText : List (List ℕ) → List ℕ
+lineText fields = joinedBy tab fields ++ (lf ∷ [])
 
 -- a tick is 104 microseconds
 abbrev pub microseconds : ℕ → ℕ
 microseconds ticks = ticks * 104
 
 -- number, kind, data, phase, score, longest low run in ticks, silence in microseconds
-unfoldable pub rowText : ℕ → SniffedDecode → ℕ → ℕ → List ℕ
-rowText number decode low silence =
-    decimalOf number ++ tab
-    ++ kindText (decode .frame) ++ tab
-    ++ dataText (decode .frame) ++ tab
-    ++ phaseText (decode .«phase_ticks») ++ tab
-    ++ decimalOf (decode .score) ++ tab
-    ++ decimalOf low ++ tab
-    ++ decimalOf (microseconds silence) ++ lf
+unfoldable pub rowText : ℕ → Capture → Reading → List ℕ
+rowText number capture reading =
+    lineText
+    (decimalOf number
+    ∷ kindText (reading .decode .frame)
+    ∷ dataText (reading .decode .frame)
+    ∷ signedOf (reading .decode .«phase_ticks»)
+    ∷ decimalOf (reading .decode .score)
+    ∷ decimalOf (reading .«low_run»)
+    ∷ decimalOf (microseconds (capture .silence))
+    ∷ [])
 
 -- number, BAD, refusal
-unfoldable pub badText : ℕ → ℕ → List ℕ
-badText number refusal = decimalOf number ++ tab ++ (66 ∷ 65 ∷ 68 ∷ []) ++ tab ++ decimalOf refusal ++ lf
+unfoldable pub badText : ℕ → Refusal → List ℕ
+badText number refusal = lineText (decimalOf number ∷ word "BAD" ∷ decimalOf (refusalNumber refusal) ∷ [])
 
 -- END, lines, decoded, refused
-unfoldable pub endText : ℕ → ℕ → ℕ → List ℕ
-endText lines decoded refused =
-    (69 ∷ 78 ∷ 68 ∷ []) ++ tab ++ decimalOf lines ++ tab ++ decimalOf decoded ++ tab ++ decimalOf refused ++ lf
+unfoldable pub endText : Counts → List ℕ
+endText counts = lineText (word "END" ∷ decimalOf (counts .lines) ∷ decimalOf (counts .decoded) ∷ decimalOf (counts .refused) ∷ [])
 
--- ---- into a lent buffer
--- A line is written at a place of the buffer if there is room for every line of its kind: 46 bytes for a row (the longest has 45), 17 for a
--- BAD line and 37 for an END line. Else nothing is written, and the place stays.
-abbrev pub fitsAt : ℕ → ℕ → List ℕ → Bool
-fitsAt longest place buffer = leb (place + longest) (length buffer)
+-- ---- the limits
+-- No row, no BAD line and no END line is longer: their words, tabs and LF, and ten digits for each number of 32 bits.
+abbrev pub rowMax : ℕ
+rowMax = 45
 
-unfoldable pub placeAfter : ℕ → List ℕ → ℕ → List ℕ → ℕ
-placeAfter longest text place buffer = pick (fitsAt longest place buffer) (place + length text) place
+abbrev pub badMax : ℕ
+badMax = 17
 
-unfoldable pub bufferAfter : ℕ → List ℕ → ℕ → List ℕ → List ℕ
-bufferAfter longest text place buffer = pick (fitsAt longest place buffer) (sets buffer place text) buffer
+abbrev pub endMax : ℕ
+endMax = 37

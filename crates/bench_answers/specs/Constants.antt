@@ -1,6 +1,6 @@
 -- The public constants. Assumes nothing.
 use Rattle.bench_answers.specs.declared.PublicConstants.{PublicConstants}
+use Rattle.bench_answers.specs.Answer.{rowMax, badMax, endMax}
 
--- The longest row, BAD line and END line: their words, tabs and LF, and ten digits for each number of 32 bits.
 abbrev pub publicConstants : PublicConstants
-publicConstants = record { «row_max» = 46; «bad_max» = 17; «end_max» = 37 }
+publicConstants = record { «row_max» = rowMax; «bad_max» = badMax; «end_max» = endMax }

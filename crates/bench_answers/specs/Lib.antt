@@ -1,4 +1,4 @@
 pub mod Answer
 pub mod Code
-pub mod ReadBack
 pub mod Constants
+pub mod Longest

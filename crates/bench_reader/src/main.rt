@@ -1,41 +1,42 @@
 // The bench reader: a book of captures on standard input, an answer a line on standard output. What is written is made by `book`; here bytes
-// are only moved. They leave in `emit` and `emit_last`, and what these require says which bytes they are.
+// are only moved. What the program promises is said in specs/Run.antt: each read is fed whole and once, in order; what is said of it is
+// written; and the end of the input is answered by the reader that all of it led to.
 ghost use mathlib.Core.Path.{_≡_};
-ghost use Prim.Native.Nat.{_≤_};
+ghost use Prim.Native.Nat.{_+_, _<_};
 ghost use lib.ListN.{length};
-ghost use Rattle.book.specs.Reader.{bytesIn, after, said, lastWords};
-ghost use Rattle.bench_reader.specs.Reached.{Reached, TookIn};
+ghost use Rattle.book.specs.Reader.{bytesIn, lastWords};
+ghost use Rattle.stdio.specs.Marks.{Came, Went, Within};
+ghost use Rattle.bench_reader.specs.Run.{Ran, isMore, readsMax, Stops, Told};
+ghost use Rattle.stdio.specs.declared.Report.the-variants.{Bytes};
+ghost use Rattle.bench_reader.specs.declared.Next.the-variants.{More};
+use bench_answers::ROW_MAX;
 use book::BookReader;
 use book::Said;
-use libc::STDERR_FILENO;
-use libc::STDIN_FILENO;
-use libc::STDOUT_FILENO;
+use stdio::Report;
 
 // What one read may bring.
-type Chunk = [u8; CHUNK_ROOM];
+type Chunk = [u8; CHUNK_MAX];
 
-const CHUNK_ROOM: usize = 16_384;
+const CHUNK_MAX: usize = 16_384;
 
-// Room for all that such a chunk can make the reader say, 46 bytes for each of its own.
+// Room for all that such a chunk can make the reader say.
 type Answers = [u8; ANSWERS_ROOM];
 
-const ANSWERS_ROOM: usize = 753_664;
+const ANSWERS_ROOM: usize = CHUNK_MAX * ROW_MAX;
 
-// How the reading goes on. After a failure nothing more is read or written: its message has been.
+// How a run goes on: it reads again; a byte came after the last line that a book may have; the input has ended; or a read or a write failed.
 enum Next {
     More,
+    Over,
     End,
     Failed,
 }
 
-// What one turn leaves.
-struct Turned {
+// What a run has come to: how many reads were made, the reader that they led to, and how it goes on.
+struct Run {
+    reads: u64,
     reader: BookReader,
     next: Next,
-}
-
-fn complain(message: &[u8]) {
-    io::write_all(STDERR_FILENO, message);
 }
 
 fn bytes_in(said: Said) -> usize
@@ -47,120 +48,142 @@ fn bytes_in(said: Said) -> usize
     }
 }
 
-fn emit(reader: BookReader, chunk: &[u8], bytes: &[u8]) -> bool
-    requires { ⌜ Reached reader ⌝ }
-    requires { ⌜ now bytes ≡ said reader (now chunk) ⌝ }
-{
-    io::write_all(STDOUT_FILENO, bytes)
+fn main() {
+    let mut chunk = [0u8; CHUNK_MAX];
+    let mut out = [0u8; ANSWERS_ROOM];
+    answer_book(&mut chunk, &mut out);
 }
 
-fn emit_last(reader: BookReader, bytes: &[u8]) -> bool
-    requires { ⌜ Reached reader ⌝ }
-    requires { ⌜ now bytes ≡ lastWords reader ⌝ }
+// All that the program does.
+fn answer_book(chunk: &mut Chunk, out: &mut Answers)
+    ensures { λ _. ⌜ Told ⌝ }
 {
-    io::write_all(STDOUT_FILENO, bytes)
-}
-
-// Feeds a chunk to the reader, and writes what that says.
-fn take_in(reader: BookReader, chunk: &[u8], out: &mut Answers) -> Turned
-    requires { ⌜ Reached reader ⌝ }
-    requires { ⌜ length (now chunk) ≤ 16384 ⌝ }
-    ensures { λ r. ⌜ r .reader ≡ after reader (now (chunk .entry)) ⌝ }
-{
-    let fed = reader.feed(chunk, out);
-    let next = fed.reader;
-    let said = fed.said;
-    let end = bytes_in(said);
-    let answers: &[u8] = out;
-    if emit(reader, chunk, &answers[..end]) {
-        return Turned {
-            reader: next,
-            next: Next::More,
-        };
-    }
-    complain(b"bench-reader: standard output can't be written\n");
-    Turned {
-        reader: next,
-        next: Next::Failed,
+    let run = read_all(chunk, out);
+    let next = run.next;
+    match next {
+        Next::More => {}
+        Next::Failed => {}
+        Next::End => {
+            finish(run, out);
+        }
+        Next::Over => {
+            finish(run, out);
+            stdio::complain(b"note: no line after the 999,999th was read\n");
+        }
     }
 }
 
-// Reads once, and takes in what came.
-fn turn(reader: BookReader, chunk: &mut Chunk, out: &mut Answers) -> Turned
-    requires { ⌜ Reached reader ⌝ }
-    ensures { λ r. ⌜ TookIn reader (now (chunk .exit)) (r .reader) ⌝ }
-{
-    let got = libc::read(STDIN_FILENO, chunk);
-    if got < 0 {
-        complain(b"bench-reader: standard input can't be read, so there is no END line\n");
-        return Turned {
-            reader,
-            next: Next::Failed,
-        };
-    }
-    if got == 0 {
-        return Turned {
-            reader,
-            next: Next::End,
-        };
-    }
-    let bytes: &[u8] = chunk;
-    let n = io::count(got, bytes);
-    take_in(reader, &bytes[..n], out)
-}
-
-// Nothing says that the input ends, so the turns are counted down from a number that no run uses up.
-fn read_all(chunk: &mut Chunk, out: &mut Answers) -> Turned
-    ensures { λ r. ⌜ Reached (r .reader) ⌝ }
+// Nothing says that the input ends, so the reads are counted up to a number that no run comes to.
+fn read_all(chunk: &mut Chunk, out: &mut Answers) -> Run
+    ensures { λ r. ⌜ Ran (r .reads) (r .reader) (r .next) ⌝ }
+    ensures { λ r. ⌜ Stops (r .reads) (r .next) ⌝ }
 {
     let mut reader = BookReader::new();
-    let mut turns = u64::MAX;
-    while 0 < turns {
-        let turned = turn(reader, chunk, out);
-        if !goes_on(turned) {
-            return turned;
+    let mut reads: u64 = 0;
+    while reads < u64::MAX {
+        let run = turn(reads, reader, chunk, out);
+        if !goes_on(run) {
+            return run;
         }
-        reader = turned.reader;
-        turns -= 1;
+        reader = run.reader;
+        reads += 1;
     }
-    Turned {
+    Run {
+        reads,
         reader,
-        next: Next::End,
+        next: Next::More,
     }
 }
 
-// A book has no more than so many lines, and what follows them is not read.
-fn goes_on(turned: Turned) -> bool {
-    if turned.reader.is_full() {
-        return false;
-    }
-    let next = turned.next;
+fn goes_on(run: Run) -> bool
+    ensures { λ r. ⌜ r ≡ isMore (run .next) ⌝ }
+{
+    let next = run.next;
     match next {
         Next::More => true,
+        Next::Over => false,
         Next::End => false,
         Next::Failed => false,
     }
 }
 
-fn main() {
-    let mut chunk = [0u8; CHUNK_ROOM];
-    let mut out = [0u8; ANSWERS_ROOM];
-    let last = read_all(&mut chunk, &mut out);
-    let next = last.next;
-    if let Next::Failed = next {
-        return;
+// Reads once, and takes in what came.
+fn turn(reads: u64, reader: BookReader, chunk: &mut Chunk, out: &mut Answers) -> Run
+    requires { ⌜ reads < readsMax ⌝ }
+    requires { ⌜ Ran reads reader More ⌝ }
+    ensures { λ r. ⌜ r .reads ≡ reads + 1 ⌝ }
+    ensures { λ r. ⌜ Ran (r .reads) (r .reader) (r .next) ⌝ }
+{
+    let made = reads + 1;
+    let report = stdio::read_chunk(reads, chunk);
+    match report {
+        Report::Bytes(count) => take_in(reads, reader, chunk, count, out),
+        Report::End => Run {
+            reads: made,
+            reader,
+            next: Next::End,
+        },
+        Report::Failed => {
+            stdio::complain(b"error: standard input can't be read, so there is no END line\n");
+            Run {
+                reads: made,
+                reader,
+                next: Next::Failed,
+            }
+        }
     }
-    finish(last.reader, &mut out);
 }
 
-fn finish(reader: BookReader, out: &mut Answers)
-    requires { ⌜ Reached reader ⌝ }
+// Feeds what came to the reader, and writes what that says.
+fn take_in(reads: u64, reader: BookReader, chunk: &Chunk, count: usize, out: &mut Answers) -> Run
+    requires { ⌜ reads < readsMax ⌝ }
+    requires { ⌜ Ran reads reader More ⌝ }
+    requires { ⌜ Within (length (now chunk)) (Bytes count) ⌝ }
+    requires { ⌜ Came reads (now chunk) (Bytes count) ⌝ }
+    ensures { λ r. ⌜ r .reads ≡ reads + 1 ⌝ }
+    ensures { λ r. ⌜ Ran (r .reads) (r .reader) (r .next) ⌝ }
 {
+    let made = reads + 1;
+    let bytes: &[u8] = chunk;
+    let fed = reader.feed(&bytes[..count], out);
+    let next = fed.reader;
+    let said = fed.said;
+    let end = bytes_in(said);
+    let answers: &[u8] = out;
+    if !stdio::write_text(&answers[..end]) {
+        stdio::complain(b"error: standard output can't be written\n");
+        return Run {
+            reads: made,
+            reader: next,
+            next: Next::Failed,
+        };
+    }
+    if next.is_over() {
+        return Run {
+            reads: made,
+            reader: next,
+            next: Next::Over,
+        };
+    }
+    Run {
+        reads: made,
+        reader: next,
+        next: Next::More,
+    }
+}
+
+// Answers the end of the input. All that the run said before is written by then.
+fn finish(run: Run, out: &mut Answers) -> bool
+    requires { ⌜ Ran (run .reads) (run .reader) (run .next) ⌝ }
+    ensures { λ r. ⌜ Went (lastWords (run .reader)) r ⌝ }
+{
+    let reader = run.reader;
     let said = reader.finish(out);
     let end = bytes_in(said);
     let answers: &[u8] = out;
-    if emit_last(reader, &answers[..end]) {
-        return;
+    let done = stdio::write_text(&answers[..end]);
+    if !done {
+        stdio::complain(b"error: standard output can't be written\n");
     }
-    complain(b"bench-reader: standard output can't be written\n");
+    done
 }

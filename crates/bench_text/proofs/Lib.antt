@@ -1,2 +1,4 @@
-pub mod Lines
+pub mod FirstBroken
+mod LineLaws
+pub mod ReadBack
 pub mod Sole

@@ -1,6 +1,6 @@
 -- The public constant. Assumes nothing.
 use Rattle.bench_text.specs.declared.PublicConstants.{PublicConstants}
+use Rattle.bench_text.specs.Rules.{lineMax}
 
--- as many bytes as a line may have before its end
 abbrev pub publicConstants : PublicConstants
-publicConstants = record { «line_max» = 140 }
+publicConstants = record { «line_max» = lineMax }

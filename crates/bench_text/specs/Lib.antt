@@ -1,4 +1,5 @@
-pub mod Code
+pub mod Rules
 pub mod Line
-pub mod Refusals
+pub mod FirstBroken
+pub mod ReadBack
 pub mod Constants

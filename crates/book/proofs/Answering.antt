@@ -1,107 +1,93 @@
 -- The answer to a line, where there is room for it. Assumes nothing.
 use Prim.Native.Nat.{ℕ, _+_, _≤_, min}
+use native.Mathlib.Numerals.{add-one}
 use native.Mathlib.Omega.{arith}
 use mathlib.Core.Bool.{Bool, true, false}
-use mathlib.Core.List.{List, []}
+use mathlib.Core.List.{List}
 use mathlib.Core.Path.{_≡_, refl, sym, ap, subst, _∙_}
 use lib.Dec.{ltb}
 use lib.ListN.{length, take}
-use lib.Seq.{sets, take-all}
-use borrow.Author.Tests.{le-leb, ltb-true, ltb-false}
+use lib.Seq.{take-all}
+use borrow.Author.Tests.{ltb-true, ltb-false}
 use Rattle.laws.specs.Pick.{pick}
-use Rattle.laws.proofs.Picked.{on-true}
-use Rattle.fsm.specs.declared.RxCompletedEvent.{RxCompletedEvent}
-use Rattle.rx_decode.specs.declared.SniffedDecode.{SniffedDecode}
-use Rattle.rx_decode.specs.Reading.{foundIn, sniffedOf, lowRunOf}
+use Rattle.text.specs.Writing.{placeAfter, bufferAfter}
+use Rattle.text.proofs.WritingLaws.{stored}
 use Rattle.bench_text.specs.declared.BookLine.{BookLine}
+use Rattle.bench_text.specs.declared.Capture.{Capture}
 use Rattle.bench_text.specs.declared.LineAnswer.{LineAnswer}
-use Rattle.bench_text.specs.declared.LineAnswer.the-variants.{Capture, Refused}
+use Rattle.bench_text.specs.declared.LineAnswer.the-variants.{Good, Refused}
 use Rattle.bench_text.specs.declared.Refusal.{Refusal}
 use Rattle.bench_text.specs.Line.{lineOf}
-use Rattle.bench_text.specs.Refusals.{refusalNumber}
-use Rattle.bench_answers.specs.Answer.{rowText, badText, placeAfter, bufferAfter}
-use Rattle.book.specs.declared.Counts.{Counts}
+use Rattle.bench_reading.specs.declared.Reading.{Reading}
+use Rattle.bench_reading.specs.Reading.{readingOf, isDecoded}
+use Rattle.bench_answers.specs.declared.Counts.{Counts}
+use Rattle.bench_answers.specs.Answer.{rowMax, badMax, rowText, badText}
 use Rattle.book.specs.declared.Ended.{Ended}
-use Rattle.book.specs.Report.{captureOf, decodeOf, answerText, isFrame, isDecodedAs, isRefusedAs}
+use Rattle.book.specs.Report.{answerAs, isDecodedAs, isRefusedAs}
 use Rattle.book.specs.Reader.{oneMore, countedAs}
-use Rattle.book.specs.Code.{Answered, AnsweredLine}
+use Rattle.book.specs.Code.{anyCapture, Answered, AnsweredLine}
 
-module _ (longest place : ℕ) (text before : List ℕ) (h : place + longest ≤ length before) where
-  pub placed : {next : ℕ} → next ≡ placeAfter longest text place before → next ≡ place + length text
-  unfolding placeAfter
-  placed e = e ∙ on-true (le-leb (place + longest) (length before) h) _ _
-
-  pub stored : {after : List ℕ} → after ≡ bufferAfter longest text place before → after ≡ sets before place text
-  unfolding bufferAfter
-  stored e = e ∙ on-true (le-leb (place + longest) (length before) h) _ _
-
-module _ (c : Counts) (place next : ℕ) (before after : List ℕ) (h : place + 46 ≤ length before) where
-  pub refused-line : (refusal : Refusal) (refused : ℕ) → next ≡ placeAfter 17 (badText (c .lines + 1) (refusalNumber refusal)) place before
-      → after ≡ bufferAfter 17 (badText (c .lines + 1) (refusalNumber refusal)) place before → next ≤ place + 17 → refused ≡ oneMore (c .refused)
-      → Answered c (Refused refusal) [] place before after
+module _ (c : Counts) (place next : ℕ) (before after : List ℕ) (h : place + rowMax ≤ length before) where
+  pub refused-line : (refusal : Refusal) (refused : ℕ) → next ≡ placeAfter badMax (badText (c .lines + 1) refusal) place before
+      → after ≡ bufferAfter badMax (badText (c .lines + 1) refusal) place before → next ≤ place + badMax → refused ≡ oneMore (c .refused)
+      → Answered c (Refused refusal) anyCapture place before after
       (record { counts = record { lines = c .lines + 1; decoded = c .decoded; refused = refused }; at = next })
-  unfolding countedAs isDecodedAs isRefusedAs answerText pick
+  unfolding countedAs isDecodedAs isRefusedAs answerAs pick
   refused-line refusal refused past left within e =
-      let room : place + 17 ≤ length before = omega arith in
+      let wrote = stored badMax (badText (c .lines + 1) refusal) place before (omega arith) (past, left) in
       record {
         counts = ap (λ (n : ℕ). record { lines = c .lines + 1; decoded = c .decoded; refused = n }) e;
-        past = placed 17 place _ before room past;
+        past = rw (← add-one (c .lines)) (wrote .0);
         within = omega (arith, within);
-        left = stored 17 place _ before room left;
+        left = rw (← add-one (c .lines)) (wrote .1);
       }
 
-  module _ (silence count : ℕ) (samples : List ℕ) (event : RxCompletedEvent) (decode : SniffedDecode) (low decoded : ℕ) (is : event ≡ captureOf silence count samples)
-      (read : decode ≡ sniffedOf (foundIn event)) (run : low ≡ lowRunOf event) where
-    the-decode : decode ≡ decodeOf silence count samples
-    the-decode = read ∙ ap (λ (e : RxCompletedEvent). sniffedOf (foundIn e)) is
-
-    row : rowText (c .lines + 1) decode low silence ≡ answerText (c .lines + 1) (Capture silence count) samples
-    unfolding answerText
-    row = rw (the-decode, run, is) refl
-
-    pub capture-line : next ≡ placeAfter 46 (rowText (c .lines + 1) decode low silence) place before
-        → after ≡ bufferAfter 46 (rowText (c .lines + 1) decode low silence) place before → next ≤ place + 46
-        → decoded ≡ pick (isFrame (decode .frame)) (oneMore (c .decoded)) (c .decoded)
-        → Answered c (Capture silence count) samples place before after
+  module _ (capture : Capture) (reading : Reading) (decoded : ℕ) (is : reading ≡ readingOf capture) where
+    pub capture-line : next ≡ placeAfter rowMax (rowText (c .lines + 1) capture reading) place before
+        → after ≡ bufferAfter rowMax (rowText (c .lines + 1) capture reading) place before → next ≤ place + rowMax
+        → decoded ≡ pick (isDecoded reading) (oneMore (c .decoded)) (c .decoded)
+        → Answered c Good capture place before after
         (record { counts = record { lines = c .lines + 1; decoded = decoded; refused = c .refused }; at = next })
-    unfolding countedAs isDecodedAs isRefusedAs pick
+    unfolding countedAs isDecodedAs isRefusedAs answerAs pick
     capture-line past left within e =
+        let wrote = stored rowMax (rowText (c .lines + 1) capture reading) place before h (past, left) in
+        let counts : decoded ≡ pick (isDecoded (readingOf capture)) (oneMore (c .decoded)) (c .decoded) = rw is at e in
         record {
-          counts =
-              ap (λ (n : ℕ). record { lines = c .lines + 1; decoded = n; refused = c .refused })
-              (e ∙ ap (λ (d : SniffedDecode). pick (isFrame (d .frame)) (oneMore (c .decoded)) (c .decoded)) the-decode);
-          past = placed 46 place _ before h past ∙ ap (λ (t : List ℕ). place + length t) row;
+          counts = ap (λ (n : ℕ). record { lines = c .lines + 1; decoded = n; refused = c .refused }) counts;
+          past = rw (← add-one (c .lines), ← is) (wrote .0);
           within = within;
-          left = stored 46 place _ before h left ∙ ap (sets before place) row;
+          left = rw (← add-one (c .lines), ← is) (wrote .1);
         }
 
--- ---- the line that was read
--- as many bytes as there are, also where more are asked for
-shorter-held : (len : ℕ) (line : List ℕ) (t : Bool) → ltb len (length line) ≡ t → take (min len (length line)) line ≡ take len line
-shorter-held len line true f = let same : min len (length line) ≡ len = omega (arith, ltb-true len (length line) f) in ap (λ (n : ℕ). take n line) same
-shorter-held len line false f =
-    let h : length line ≤ len = ltb-false len (length line) f in
-    let same : min len (length line) ≡ length line = omega arith in
-    ap (λ (n : ℕ). take n line) same ∙ take-all (length line) line (omega arith) ∙ sym (take-all len line h)
+-- ---- a line in its buffer
+-- the shorter of a line's length and its buffer's is as good as the length
+shorter-held : (len : ℕ) (held : List ℕ) (t : Bool) → ltb len (length held) ≡ t → take (min len (length held)) held ≡ take len held
+shorter-held len held true e =
+    let h = ltb-true len (length held) e in
+    let m : min len (length held) ≡ len = omega arith in
+    ap (λ (n : ℕ). take n held) m
+shorter-held len held false e =
+    let h = ltb-false len (length held) e in
+    take-all (min len (length held)) held (omega arith) ∙ sym (take-all len held h)
 
--- a refused line's samples are not looked at
-whatever : {c : Counts} {refusal : Refusal} {place : ℕ} {before after : List ℕ} {r : Ended} (samples : List ℕ)
-    → Answered c (Refused refusal) [] place before after r → Answered c (Refused refusal) samples place before after r
-unfolding countedAs isDecodedAs answerText
-whatever samples a = record { counts = a .counts; past = a .past; within = a .within; left = a .left }
+-- the capture beside a refusal plays no part
+whatever : {c : Counts} {refusal : Refusal} {place : ℕ} {before after : List ℕ} {r : Ended} (capture : Capture)
+    → Answered c (Refused refusal) anyCapture place before after r → Answered c (Refused refusal) capture place before after r
+unfolding countedAs isDecodedAs answerAs
+whatever capture a = record { counts = a .counts; past = a .past; within = a .within; left = a .left }
 
-module _ (c : Counts) (line : List ℕ) (len held : ℕ) (read : BookLine) (h : held ≡ min len (length line)) (e : read ≡ lineOf (take held line)) (place : ℕ)
+module _ (c : Counts) (held : List ℕ) (len count : ℕ) (read : BookLine) (h : count ≡ min len (length held)) (e : read ≡ lineOf (take count held)) (place : ℕ)
     (before after : List ℕ) (r : Ended) where
-  of-read : (answer : LineAnswer) → read .answer ≡ answer → Answered c answer (read .samples) place before after r → AnsweredLine c (take len line) place before after r
+  of-read : (answer : LineAnswer) → read .answer ≡ answer → Answered c answer (read .capture) place before after r
+      → AnsweredLine c (take len held) place before after r
   of-read answer f a =
-      subst (λ (b : BookLine). Answered c (b .answer) (b .samples) place before after r)
-      (e ∙ ap (λ (n : ℕ). lineOf (take n line)) h ∙ ap lineOf (shorter-held len line (ltb len (length line)) refl))
-      (subst (λ (x : LineAnswer). Answered c x (read .samples) place before after r) (sym f) a)
+      subst (λ (b : BookLine). Answered c (b .answer) (b .capture) place before after r)
+      (e ∙ ap (λ (n : ℕ). lineOf (take n held)) h ∙ ap lineOf (shorter-held len held (ltb len (length held)) refl))
+      (subst (λ (x : LineAnswer). Answered c x (read .capture) place before after r) (sym f) a)
 
-  pub of-capture : (silence count : ℕ) → read .answer ≡ Capture silence count → Answered c (Capture silence count) (read .samples) place before after r
-      → AnsweredLine c (take len line) place before after r
-  of-capture silence count f a = of-read (Capture silence count) f a
+  pub of-capture : read .answer ≡ Good → Answered c Good (read .capture) place before after r → AnsweredLine c (take len held) place before after r
+  of-capture f a = of-read Good f a
 
-  pub of-refused : (refusal : Refusal) → read .answer ≡ Refused refusal → Answered c (Refused refusal) [] place before after r
-      → AnsweredLine c (take len line) place before after r
-  of-refused refusal f a = of-read (Refused refusal) f (whatever (read .samples) a)
+  pub of-refused : (refusal : Refusal) → read .answer ≡ Refused refusal → Answered c (Refused refusal) anyCapture place before after r
+      → AnsweredLine c (take len held) place before after r
+  of-refused refusal f a = of-read (Refused refusal) f (whatever (read .capture) a)

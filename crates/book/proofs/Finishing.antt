@@ -1,64 +1,88 @@
 -- The end of the input: what the code writes is what is promised. Assumes nothing.
-use Prim.Native.Nat.{ℕ, _+_, _<_, _≤_}
+use Prim.Native.Nat.{ℕ, suc, _+_, _-_, _<_, _≤_}
 use native.Mathlib.Omega.{arith}
 use mathlib.Core.Bool.{true, false}
-use mathlib.Core.List.{List, _++_}
+use mathlib.Core.List.{List, [], _++_, append-nil}
 use mathlib.Core.Path.{_≡_, sym, ap, _∙_}
 use lib.ListN.{length, length-append}
-use lib.Seq.{sets, length-sets}
-use borrow.Author.Tests.{eq-eqb, ne-eqb, le-leb, lt-leb}
+use lib.Seq.{sets, take-nil, length-sets}
+use borrow.Author.Tests.{eq-eqb, ne-eqb, le-leb, lt-leb, leb-true, leb-false}
 use Rattle.laws.proofs.Picked.{on-true, on-false}
-use Rattle.bench_text.specs.declared.LineAnswer.{LineAnswer}
-use Rattle.bench_answers.proofs.Writes.{sets-append}
+use Rattle.text.specs.Writing.{placeAfter, bufferAfter}
+use Rattle.text.proofs.WritingLaws.{sets-append, stored}
+use Rattle.lines.specs.declared.Lines.{Lines}
+use Rattle.lines.specs.Lines.{waiting}
+use Rattle.lines.specs.AnyChunks.{lastOf}
+use Rattle.bench_answers.specs.declared.Counts.{Counts}
+use Rattle.bench_answers.specs.Answer.{endMax, endText}
 use Rattle.book.specs.declared.BookReader.{BookReader}
-use Rattle.book.specs.declared.Counts.{Counts}
 use Rattle.book.specs.declared.Ended.{Ended}
-use Rattle.book.specs.declared.Said.{Said}
 use Rattle.book.specs.declared.Said.the-variants.{Bytes, NoRoom}
-use Rattle.book.specs.Report.{answerText, lineText}
-use Rattle.book.specs.Reader.{isFull, heldIn, ended, endedText, bytesIn, countsText, lastWords, finished, bufferFinished}
-use Rattle.book.specs.Code.{Answered, AnsweredLine}
+use Rattle.book.specs.Report.{linesMax, answerText, answersFrom}
+use Rattle.book.specs.Reader.{isFull, counted, countedOver, readOf, bytesIn, lastWords, finishMax, finished, bufferFinished}
+use Rattle.book.specs.Code.{AnsweredLine}
+use Rattle.book.proofs.Steps.{none-more, one-more}
 
--- behind the answer to a last line there is room for the counts
-pub room-behind : {c : Counts} {answer : LineAnswer} {samples buffer middle : List ℕ} {e : Ended} → 83 ≤ length buffer → Answered c answer samples 0 buffer middle e
-    → e .at + 37 ≤ length middle
-room-behind {c} {answer} {samples} {buffer} {middle} {e} h a =
-    let text = answerText (c .lines + 1) answer samples in
-    let same : length middle ≡ length buffer = ap length (a .left) ∙ length-sets buffer 0 text in
-    omega (arith, a .within, same)
+pub not-full : (r : BookReader) → isFull r ≡ false → r .counts .lines < linesMax
+unfolding isFull
+not-full r f = leb-false linesMax (r .counts .lines) f
 
+-- ---- the last line
+module _ (r : BookReader) where
+  no-words : readOf r (lastOf (r .lines)) ≡ [] → lastWords r ≡ endText (r .counts)
+  unfolding lastWords answersFrom countedOver
+  no-words e = rw e
+
+  full-words : isFull r ≡ true → lastWords r ≡ endText (r .counts)
+  unfolding isFull
+  full-words f = no-words (rw (none-more (r .counts .lines) (leb-true linesMax (r .counts .lines) f)))
+
+  none-words : r .lines .len ≡ 0 → lastWords r ≡ endText (r .counts)
+  unfolding lastOf
+  none-words e = no-words (rw (on-true (eq-eqb (r .lines .len) 0 e)) (take-nil (linesMax - r .counts .lines)))
+
+  some-words : isFull r ≡ false → (r .lines .len ≡ 0 → ⊥)
+      → lastWords r ≡ answerText (suc (r .counts .lines)) (waiting (r .lines)) ++ endText (counted (r .counts) (waiting (r .lines)))
+  unfolding lastWords lastOf answersFrom countedOver
+  some-words f n =
+      rw (on-false (ne-eqb (r .lines .len) 0 n), one-more (r .counts .lines) (not-full r f), take-nil (linesMax - (r .counts .lines + 1)), append-nil)
+
+-- ---- what is written
 module _ (r : BookReader) (buffer : List ℕ) where
-  pub too-short : length buffer < 83 → (NoRoom ≡ finished r (length buffer)) × ((buffer ≡ bufferFinished r buffer) × (bytesIn NoRoom ≤ length buffer))
+  pub too-short : length buffer < finishMax → (NoRoom ≡ finished r (length buffer)) × ((buffer ≡ bufferFinished r buffer) × (bytesIn NoRoom ≤ length buffer))
   unfolding finished bufferFinished bytesIn
-  too-short h = let short = lt-leb 83 (length buffer) h in (sym (on-false short _ _), (sym (on-false short _ _), omega arith))
+  too-short h = let short = lt-leb finishMax (length buffer) h in (sym (on-false short _ _), (sym (on-false short _ _), omega arith))
 
-  module _ (h : 83 ≤ length buffer) (n : ℕ) (buffer′ : List ℕ) where
+  module _ (h : finishMax ≤ length buffer) (n : ℕ) (buffer′ : List ℕ) where
     abbrev pub Finished : Type 0
     Finished = (Bytes n ≡ finished r (length buffer)) × ((buffer′ ≡ bufferFinished r buffer) × (bytesIn (Bytes n) ≤ length buffer))
 
-    says : (text : List ℕ) → lastWords r ≡ text → n ≡ 0 + length text → buffer′ ≡ sets buffer 0 text → n ≤ 83 → Finished
+    says : (text : List ℕ) → lastWords r ≡ text → n ≡ 0 + length text → buffer′ ≡ sets buffer 0 text → n ≤ finishMax → Finished
     unfolding finished bufferFinished bytesIn
     says text e past left most =
-        let room = le-leb 83 (length buffer) h in
+        let room = le-leb finishMax (length buffer) h in
         let all : n ≡ length (lastWords r) = past ∙ omega arith ∙ ap length (sym e) in
         (ap Bytes all ∙ sym (on-true room _ _), (left ∙ ap (sets buffer 0) (sym e) ∙ sym (on-true room _ _), omega arith))
 
-    pub when-full : isFull r ≡ true → n ≡ 0 + length (countsText (r .counts)) → buffer′ ≡ sets buffer 0 (countsText (r .counts)) → n ≤ 0 + 37 → Finished
-    unfolding lastWords
-    when-full f past left most = says _ (on-true f _ _) past left (omega arith)
+    -- the counts alone
+    module _ (past : n ≡ placeAfter endMax (endText (r .counts)) 0 buffer) (left : buffer′ ≡ bufferAfter endMax (endText (r .counts)) 0 buffer) (most : n ≤ 0 + endMax) where
+      ends : lastWords r ≡ endText (r .counts) → Finished
+      ends e = let wrote = stored endMax (endText (r .counts)) 0 buffer (omega arith) (past, left) in says _ e (wrote .0) (wrote .1) (omega arith)
 
-    pub when-none : isFull r ≡ false → r .len ≡ 0 → n ≡ 0 + length (countsText (r .counts)) → buffer′ ≡ sets buffer 0 (countsText (r .counts)) → n ≤ 0 + 37 → Finished
-    unfolding lastWords
-    when-none f e past left most = says _ (on-false f _ _ ∙ on-true (eq-eqb (r .len) 0 e) _ _) past left (omega arith)
+      pub when-full : isFull r ≡ true → Finished
+      when-full f = ends (full-words r f)
 
-    pub when-some : isFull r ≡ false → (r .len ≡ 0 → ⊥) → (middle : List ℕ) (e : Ended) → AnsweredLine (r .counts) (heldIn r) 0 buffer middle e
-        → n ≡ e .at + length (countsText (e .counts)) → buffer′ ≡ sets middle (e .at) (countsText (e .counts)) → n ≤ e .at + 37 → Finished
-    unfolding lastWords ended endedText
-    when-some f some middle e a past left most =
-        let text = lineText (r .counts .lines + 1) (heldIn r) in
-        let last = countsText (e .counts) in
-        let words : lastWords r ≡ text ++ last =
-        on-false f _ _ ∙ on-false (ne-eqb (r .len) 0 some) _ _
-        ∙ ap (λ (c : Counts). text ++ countsText c) (sym (a .counts)) in
-        says (text ++ last) words (omega (arith, past, a .past, length-append text last))
-        (left ∙ rw (a .left, a .past) (sym (sets-append buffer 0 text last))) (omega (arith, a .within))
+      pub when-none : r .lines .len ≡ 0 → Finished
+      when-none e = ends (none-words r e)
+
+    -- the answer to a last line, and the counts behind it
+    pub when-some : isFull r ≡ false → (r .lines .len ≡ 0 → ⊥) → (middle : List ℕ) (a : Ended) → AnsweredLine (r .counts) (waiting (r .lines)) 0 buffer middle a
+        → n ≡ placeAfter endMax (endText (a .counts)) (a .at) middle → buffer′ ≡ bufferAfter endMax (endText (a .counts)) (a .at) middle → n ≤ a .at + endMax → Finished
+    when-some f some middle a answered past left most =
+        let text = answerText (suc (r .counts .lines)) (waiting (r .lines)) in
+        let last = endText (a .counts) in
+        let same : length middle ≡ length buffer = ap length (answered .left) ∙ length-sets buffer 0 text in
+        let wrote = stored endMax last (a .at) middle (omega (arith, answered .within)) (past, left) in
+        let words : lastWords r ≡ text ++ last = some-words r f some ∙ ap (λ (c : Counts). text ++ endText c) (sym (answered .counts)) in
+        says (text ++ last) words (omega (arith, wrote .0, answered .past, length-append text last))
+        (wrote .1 ∙ rw (answered .left, answered .past) (sym (sets-append buffer 0 text last))) (omega (arith, answered .within))

@@ -1,7 +1,7 @@
-pub mod Answering
-pub mod Feeding
-pub mod Finishing
+mod Answering
+mod Feeding
+mod Finishing
 mod Shown
 pub mod Sole
-pub mod Steps
+mod Steps
 pub mod Whole

@@ -1,6 +1,5 @@
 -- The printed case of document 01, and the report of no input: antt computes both from the definitions. Assumes nothing.
-use Prim.Native.Nat.{ℕ}
-use mathlib.Core.List.{List, [], _∷_}
+use mathlib.Core.List.{[]}
 use mathlib.Core.Path.{_≡_, refl}
 use Rattle.laws.specs.Packed.{packed}
 use Rattle.laws.specs.Pick.{pick}
@@ -12,31 +11,23 @@ use Rattle.window.specs.Phase.{phaseOf, bitsOf, bitsFrom, weightAround, strideA
 use Rattle.search.specs.Search.{acceptedOf, firstOf, endedOf, scannedOf, scanPhase, keptOf, betterOf, higherOf, stepOf, firstDone, runOf}
 use Rattle.fsm.specs.Station.{eventOf}
 use Rattle.rx_decode.specs.Reading.{byteOf, frameOf, sniffedOf, searchedIn, foundOr, ticksOf, lowsFirst, longestLow}
-use Rattle.bench_text.specs.Line.{grow, partedAt, isDigit, allDigits, isDecimal, valueFrom, isUpTo, digitValue, allHex, bytesOf, isC, isTooLong, hasFields, hasNumbers, hasSamples, captureLine, lineOf}
-use Rattle.bench_text.specs.Refusals.{refusalNumber}
-use Rattle.bench_answers.specs.Answer.{decimalIn, hexDigit, hexOf, phaseText, kindText, dataText, rowText, badText, endText}
-use Rattle.book.specs.Report.{captureOf, answerText, isFrame, isDecodedAs, isRefusedAs, countOf, answersFrom, reportOf, report}
+use Rattle.text.specs.Letters.{word}
+use Rattle.text.specs.Fields.{grow, partedAt, joinedBy}
+use Rattle.text.specs.Words.{sameText}
+use Rattle.text.specs.Decimals.{isDigit, allDigits, isDecimal, valueFrom, isUpTo, decimalIn}
+use Rattle.text.specs.Signed.{signedOf}
+use Rattle.text.specs.Hex.{digitValue, allHex, isHex, bytesOf, hexDigit, hexOf, hexesOf}
+use Rattle.bench_text.specs.Rules.{isShort, hasFields, hasNumbers, hasSamples, judgedBy}
+use Rattle.bench_text.specs.Line.{captureWith, lineAs}
+use Rattle.bench_reading.specs.Reading.{eventFor, readingOf, isFrame}
+use Rattle.bench_answers.specs.Answer.{kindText, dataText, rowText, badText, endText}
+use Rattle.book.specs.Report.{answerAs, isDecodedAs, isRefusedAs, countOf, answersFrom, reportOf, report}
 
--- its four lines, and what is printed for them
-abbrev input : List ℕ
-input =
-    67 ∷ 9 ∷ 49 ∷ 54 ∷ 9 ∷ 49 ∷ 49 ∷ 9 ∷ 48 ∷ 102 ∷ 102 ∷ 48 ∷ 102 ∷ 48 ∷ 102 ∷ 48 ∷ 102 ∷ 48 ∷ 102 ∷ 48 ∷ 102 ∷ 48 ∷ 102 ∷ 48 ∷ 48 ∷ 102 ∷ 102 ∷ 102 ∷ 102 ∷ 102 ∷ 10
-    ∷ 67 ∷ 9 ∷ 50 ∷ 53 ∷ 53 ∷ 9 ∷ 51 ∷ 9 ∷ 48 ∷ 48 ∷ 48 ∷ 48 ∷ 48 ∷ 48 ∷ 10
-    ∷ 67 ∷ 9 ∷ 48 ∷ 9 ∷ 48 ∷ 9 ∷ 10
-    ∷ 67 ∷ 9 ∷ 48 ∷ 9 ∷ 49 ∷ 9 ∷ 48 ∷ 70 ∷ 10 ∷ []
-
-abbrev output : List ℕ
-output =
-    49 ∷ 9 ∷ 66 ∷ 56 ∷ 9 ∷ 48 ∷ 49 ∷ 9 ∷ 48 ∷ 9 ∷ 50 ∷ 49 ∷ 56 ∷ 9 ∷ 56 ∷ 9 ∷ 49 ∷ 54 ∷ 54 ∷ 52 ∷ 10
-    ∷ 50 ∷ 9 ∷ 70 ∷ 65 ∷ 73 ∷ 76 ∷ 9 ∷ 45 ∷ 9 ∷ 48 ∷ 9 ∷ 48 ∷ 9 ∷ 50 ∷ 52 ∷ 9 ∷ 50 ∷ 54 ∷ 53 ∷ 50 ∷ 48 ∷ 10
-    ∷ 51 ∷ 9 ∷ 70 ∷ 65 ∷ 73 ∷ 76 ∷ 9 ∷ 45 ∷ 9 ∷ 48 ∷ 9 ∷ 48 ∷ 9 ∷ 48 ∷ 9 ∷ 48 ∷ 10
-    ∷ 52 ∷ 9 ∷ 66 ∷ 65 ∷ 68 ∷ 9 ∷ 52 ∷ 10
-    ∷ 69 ∷ 78 ∷ 68 ∷ 9 ∷ 52 ∷ 9 ∷ 49 ∷ 9 ∷ 49 ∷ 10 ∷ []
-
-pub printed-case : report input ≡ output
-unfolding packed pick tabulate holds setOf withLengths withLength sniffedLengths weightOf folded halfWeight bitWeight windowOf tickAt levelBefore peekAt phaseOf bitsOf bitsFrom weightAround strideAround strideOf lengthOf scoreOf dataOf decodeOf acceptedOf firstOf endedOf scannedOf scanPhase keptOf betterOf higherOf stepOf firstDone runOf byteOf frameOf sniffedOf searchedIn foundOr ticksOf lowsFirst longestLow grow partedAt isDigit allDigits isDecimal valueFrom isUpTo digitValue allHex bytesOf isC isTooLong hasFields hasNumbers hasSamples captureLine lineOf decimalIn hexDigit hexOf phaseText kindText dataText rowText badText endText captureOf eventOf answerText isFrame isDecodedAs isRefusedAs countOf answersFrom reportOf report
+pub printed-case : report (word "C\t16\t11\t0ff0f0f0f0f0f0f00fffff\nC\t255\t3\t000000\nC\t0\t0\t\nC\t0\t1\t0F\n")
+    ≡ word "1\tB8\t01\t0\t218\t8\t1664\n2\tFAIL\t-\t0\t0\t24\t26520\n3\tFAIL\t-\t0\t0\t0\t0\n4\tBAD\t4\nEND\t4\t1\t1\n"
+unfolding packed pick tabulate holds setOf withLengths withLength sniffedLengths weightOf folded halfWeight bitWeight windowOf tickAt levelBefore peekAt phaseOf bitsOf bitsFrom weightAround strideAround strideOf lengthOf scoreOf dataOf decodeOf acceptedOf firstOf endedOf scannedOf scanPhase keptOf betterOf higherOf stepOf firstDone runOf eventOf byteOf frameOf sniffedOf searchedIn foundOr ticksOf lowsFirst longestLow grow partedAt joinedBy sameText isDigit allDigits isDecimal valueFrom isUpTo decimalIn signedOf digitValue allHex isHex bytesOf hexDigit hexOf hexesOf isShort hasFields hasNumbers hasSamples judgedBy captureWith lineAs eventFor readingOf isFrame kindText dataText rowText badText endText answerAs isDecodedAs isRefusedAs countOf answersFrom reportOf report
 printed-case = refl
 
-pub no-input : report [] ≡ 69 ∷ 78 ∷ 68 ∷ 9 ∷ 48 ∷ 9 ∷ 48 ∷ 9 ∷ 48 ∷ 10 ∷ []
-unfolding partedAt decimalIn endText countOf answersFrom reportOf report pick
+pub no-input : report [] ≡ word "END\t0\t0\t0\n"
+unfolding partedAt joinedBy decimalIn endText countOf answersFrom reportOf report pick
 no-input = refl

@@ -4,6 +4,7 @@ use mathlib.Core.Path.{_≡_}
 use Rattle.laws.proofs.Only.{Only, alike, named}
 use Rattle.book.proofs.BookReader.new.Reads as new-reader
 use Rattle.book.proofs.BookReader.is_full.Reads as is-full
+use Rattle.book.proofs.BookReader.is_over.Reads as is-over
 use Rattle.book.proofs.BookReader.feed.Reads as feed
 use Rattle.book.proofs.BookReader.finish.Reads as finish
 
@@ -12,6 +13,9 @@ new-reader-sole κs a x = named _
 
 pub is-full-sole : (κs : _) (a : _) (x : _) → Only (λ r. is-full.Post κs a r x)
 is-full-sole κs a x = named _
+
+pub is-over-sole : (κs : _) (a : _) (x : _) → Only (λ r. is-over.Post κs a r x)
+is-over-sole κs a x = named _
 
 pub feed-sole : (κs : _) (a : _) (r s : _) (x y : _) → feed.Post κs a r x → feed.Post κs a s y → (r ≡ s) × (x .1 .1 .0 .now ≡ y .1 .1 .0 .now)
 feed-sole κs a r s x y p q = (alike (p .0) (q .0), alike (p .1 .0) (q .1 .0))

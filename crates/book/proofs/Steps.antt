@@ -1,48 +1,85 @@
--- One byte of a book: what it does to a reader, by what it is. Assumes nothing.
-use Prim.Native.Nat.{ℕ, _+_, _<_, _≤_}
-use mathlib.Core.Bool.{true, false}
-use mathlib.Core.List.{[]}
-use mathlib.Core.Path.{_≡_, _∙_}
-use lib.ListN.{set}
-use borrow.Author.Tests.{eq-eqb, ne-eqb, lt-ltb, le-ltb, leb-false}
-use Rattle.laws.proofs.Picked.{on-true, on-false}
+-- A chunk, one line at a time: what a reader says of it, and where that leads. Assumes nothing.
+use Prim.Native.Nat.{ℕ, suc, _+_, _-_, _≤_, _<_}
+use native.Mathlib.Decide.{decLt}
+use native.Mathlib.Numerals.{add-one}
+use native.Mathlib.Omega.{arith}
+use mathlib.Core.Bool.{Bool, true, or-true, or-false}
+use mathlib.Core.List.{List, [], _∷_, _++_}
+use mathlib.Core.Path.{_≡_, sym, _∙_}
+use lib.Dec.{ltb}
+use lib.ListN.{length}
+use lib.Seq.{take-nil}
+use borrow.Author.Tests.{lt-ltb, le-ltb}
+use Rattle.lines.specs.declared.Lines.{Lines}
+use Rattle.lines.specs.Chunk.{ended, after as linesAfter}
+use Rattle.lines.proofs.Steps.{none-ends, none-kept}
+use Rattle.bench_answers.specs.declared.Counts.{Counts}
 use Rattle.book.specs.declared.BookReader.{BookReader}
-use Rattle.book.specs.Reader.{isFull, ended, endedText, kept, stepped, stepText}
+use Rattle.book.specs.Report.{linesMax, answerText, answersFrom}
+use Rattle.book.specs.Reader.{countedAs, counted, countedOver, after, said}
 
--- the reader with a byte more of its line
-abbrev pub more : BookReader → ℕ → BookReader
-more r byte = record { line = set (r .line) (r .len) byte; len = r .len + 1; counts = r .counts }
+abbrev pub reader : Lines → Counts → Bool → BookReader
+reader lines counts over = record { lines = lines; counts = counts; over = over }
 
-pub not-full : (r : BookReader) → isFull r ≡ false → r .counts .lines < 999999
-unfolding isFull
-not-full r f = leb-false 999999 (r .counts .lines) f
+-- two tests of the same fact
+pub same-test : (a b m n : ℕ) → (a < b → m < n) → (b ≤ a → n ≤ m) → ltb a b ≡ ltb m n
+same-test a b m n over within = split (decLt a b)
+  where
+    split : Dec (a < b) → ltb a b ≡ ltb m n
+    split (yes h) = lt-ltb a b h ∙ sym (lt-ltb m n (over h))
+    split (no h) = let k : b ≤ a = omega arith in le-ltb a b k ∙ sym (le-ltb m n (within k))
 
-module _ (r : BookReader) (byte : ℕ) where
-  pub full-step : isFull r ≡ true → stepped r byte ≡ r
-  unfolding stepped
-  full-step f = on-true f _ _
+-- ---- as many lines as a book may still have
+module _ (n : ℕ) where
+  pub none-more : linesMax ≤ n → linesMax - n ≡ 0
+  none-more h = omega arith
 
-  pub full-text : isFull r ≡ true → stepText r byte ≡ []
-  unfolding stepText
-  full-text f = on-true f _ _
+  pub one-more : n < linesMax → linesMax - n ≡ suc (linesMax - (n + 1))
+  one-more h = omega arith
 
-  module _ (f : isFull r ≡ false) where
-    pub end-step : byte ≡ 10 → stepped r byte ≡ ended r
-    unfolding stepped
-    end-step e = on-false f _ _ ∙ on-true (eq-eqb byte 10 e) _ _
+-- ---- a line ends
+module _ (r : BookReader) (chunk rest line : List ℕ) (next : Lines) (ends : ended (r .lines) chunk ≡ line ∷ ended next rest)
+    (goes : linesAfter (r .lines) chunk ≡ linesAfter next rest) where
+  module _ (h : r .counts .lines < linesMax) where
+    pub read-said : said r chunk ≡ answerText (suc (r .counts .lines)) line ++ said (reader next (counted (r .counts) line) (r .over)) rest
+    unfolding said answersFrom countedAs
+    read-said = rw (ends, one-more (r .counts .lines) h, add-one (r .counts .lines))
 
-    pub end-text : byte ≡ 10 → stepText r byte ≡ endedText r
-    unfolding stepText
-    end-text e = on-false f _ _ ∙ on-true (eq-eqb byte 10 e) _ _
+    pub read-after : after r chunk ≡ after (reader next (counted (r .counts) line) (r .over)) rest
+    unfolding after countedOver countedAs
+    read-after =
+        let n = r .counts .lines in
+        let m = length (ended next rest) in
+        let test : ltb (linesMax - n) (suc m) ≡ ltb (linesMax - (n + 1)) m = same-test (linesMax - n) (suc m) (linesMax - (n + 1)) m (λ k. omega arith) (λ k. omega arith) in
+        rw (ends, goes, test, one-more n h)
 
-    pub line-text : (byte ≡ 10 → ⊥) → stepText r byte ≡ []
-    unfolding stepText
-    line-text n = on-false f _ _ ∙ on-false (ne-eqb byte 10 n) _ _
+  -- no line is read any more
+  module _ (h : linesMax ≤ r .counts .lines) where
+    pub passed-said : said r chunk ≡ said (reader next (r .counts) true) rest
+    unfolding said
+    passed-said = rw (none-more (r .counts .lines) h)
 
-    pub more-step : (byte ≡ 10 → ⊥) → r .len < 141 → stepped r byte ≡ more r byte
-    unfolding stepped kept
-    more-step n h = on-false f _ _ ∙ on-false (ne-eqb byte 10 n) _ _ ∙ on-true (lt-ltb (r .len) 141 h) _ _
+    pub passed-after : after r chunk ≡ after (reader next (r .counts) true) rest
+    unfolding after
+    passed-after = rw (ends, goes, none-more (r .counts .lines) h, lt-ltb 0 (suc (length (ended next rest))) (omega arith), or-true (r .over))
 
-    pub long-step : (byte ≡ 10 → ⊥) → 141 ≤ r .len → stepped r byte ≡ r
-    unfolding stepped kept
-    long-step n h = on-false f _ _ ∙ on-false (ne-eqb byte 10 n) _ _ ∙ on-false (le-ltb (r .len) 141 h) _ _
+-- ---- no line ends, and all the chunk waits
+module _ (r : BookReader) (chunk : List ℕ) (next : Lines) (none : ended (r .lines) chunk ≡ []) (waits : linesAfter (r .lines) chunk ≡ next) where
+  pub waits-said : said r chunk ≡ said (reader next (r .counts) (r .over)) []
+  unfolding said
+  waits-said = rw (none, none-ends next)
+
+  pub waits-after : after r chunk ≡ after (reader next (r .counts) (r .over)) []
+  unfolding after
+  waits-after = rw (none, waits, none-ends next, none-kept next)
+
+-- ---- nothing is left
+module _ (r : BookReader) where
+  pub none-said : said r [] ≡ []
+  unfolding said answersFrom
+  none-said = rw (none-ends (r .lines), take-nil (linesMax - r .counts .lines))
+
+  pub none-after : after r [] ≡ r
+  unfolding after countedOver
+  none-after =
+      rw (none-ends (r .lines), none-kept (r .lines), take-nil (linesMax - r .counts .lines), le-ltb (linesMax - r .counts .lines) 0 (omega arith), or-false (r .over))

@@ -1,263 +1,215 @@
--- What a reader says of a book is the book's report, however it is cut. Assumes nothing.
-use Prim.Native.Nat.{ℕ, suc, _+_, _-_, _<_, _≤_}
-use native.Mathlib.Numerals.{add-one}
+-- What a reader says of a book is the book's report, however it is cut, and it tells where there is more than it reads. Assumes nothing.
+use Prim.Native.Nat.{ℕ, zero, suc, _+_, _-_, _<_, _≤_}
+use native.Mathlib.Decide.{decLt}
+use native.Mathlib.Nat.{pos-of-ne-zero}
 use native.Mathlib.Omega.{arith}
-use mathlib.Core.Bool.{Bool, true, false}
-use mathlib.Core.List.{List, [], _∷_, _++_, append-assoc, append-nil}
+use mathlib.Core.Bool.{Bool, true, false, _||_, _&&_, and-true, and-false, or-assoc}
+use mathlib.Core.List.{List, [], _∷_, _++_, append-assoc}
 use mathlib.Core.Path.{_≡_, refl, sym, ap, _∙_}
-use lib.Dec.{eqb, ltb}
-use lib.ListN.{length, take, length-append, length-set, length-take}
-use lib.Seq.{take-all, take-nil, take-append-le, take-suc-set, append-snoc, length-take-le}
-use borrow.Author.Tests.{eq-eqb, ne-eqb, ltb-true, ltb-false, eqb-true, eqb-false, leb-true}
+use lib.Dec.{eqb, ltb, leb}
+use lib.ListN.{length, take, length-append, length-take}
+use lib.Seq.{take-all, length-take-le}
+use borrow.Author.Tests.{eqb-true, eqb-false, ltb-true, ltb-false, lt-ltb, le-ltb, le-leb, lt-leb}
 use Rattle.laws.specs.Bit.{bit}
 use Rattle.laws.specs.Pick.{pick}
 use Rattle.laws.proofs.Picked.{on-true, on-false}
+use Rattle.lines.specs.declared.Lines.{Lines}
+use Rattle.lines.specs.Lines.{linesOf, lineRoom, waiting}
+use Rattle.lines.specs.Chunk.{ended, after as linesAfter}
+use Rattle.lines.specs.AnyChunks.{lastOf, endedOver, joined, shortened}
+use Rattle.lines.proofs.AnyChunks.{lines-of-any-chunks}
 use Rattle.bench_text.specs.declared.BookLine.{BookLine}
-use Rattle.bench_text.specs.Line.{grow, partedAt, lineOf}
+use Rattle.bench_text.specs.declared.Refusal.the-variants.{TooLong}
+use Rattle.bench_text.specs.Rules.{lineMax, isShort, judgedBy}
+use Rattle.bench_text.specs.Line.{refusedLine, lineAs, lineOf}
+use Rattle.bench_answers.specs.declared.Counts.{Counts}
 use Rattle.bench_answers.specs.Answer.{endText}
-use Rattle.bench_text.proofs.Lines.{line-long}
-use Rattle.book.specs.declared.Counts.{Counts}
 use Rattle.book.specs.declared.BookReader.{BookReader}
-use Rattle.book.specs.Report.{linesOf, lineText, isDecoded, isRefused, countOf, answersFrom, reportOf, report}
-use Rattle.book.specs.Reader.{newReader, isFull, heldIn, oneMore, countedAs, counted, ended, endedText, stepped, stepText, after, said, countsText, lastWords}
-use Rattle.book.specs.Whole.{saidOf, joined, Reports}
-use Rattle.book.proofs.Steps.{more, not-full, full-step, full-text, end-step, end-text, line-text, more-step, long-step}
+use Rattle.book.specs.Report.{isDecodedLine, isRefusedLine, countOf, answerText, answersFrom, reportOf, linesMax, report}
+use Rattle.book.specs.Reader.{noCounts, newReader, isFull, isOver, oneMore, countedAs, counted, countedOver, readOf, after, said, lastWords}
+use Rattle.book.proofs.Steps.{same-test}
+use Rattle.book.specs.Whole.{saidOf, Reports, afterAll, TellsMore}
 
--- ---- chunks
--- all that is said of the bytes that follow, the end of the input included
-all : BookReader → List ℕ → List ℕ
-all r bytes = said r bytes ++ lastWords (after r bytes)
+-- ---- lines one after the other
+take-append : {A : Type 0} (n : ℕ) (xs ys : List A) → take n (xs ++ ys) ≡ take n xs ++ take (n - length xs) ys
+take-append zero xs ys = let z : 0 - length xs ≡ 0 = omega arith in rw z
+take-append (suc n) [] ys = let z : suc n - 0 ≡ suc n = omega arith in rw z
+take-append (suc n) (x ∷ xs) ys = let z : suc n - suc (length xs) ≡ n - length xs = omega arith in rw z (ap (λ (l : List _). x ∷ l) (take-append n xs ys))
 
-said-append : (r : BookReader) (xs ys : List ℕ) → said r (xs ++ ys) ≡ said r xs ++ said (after r xs) ys
-unfolding after said
-said-append r [] ys = refl
-said-append r (x ∷ xs) ys =
-    ap (λ (t : List ℕ). stepText r x ++ t) (said-append (stepped r x) xs ys)
-    ∙ sym (append-assoc (stepText r x) (said (stepped r x) xs) (said (after (stepped r x) xs) ys))
+take-within : {A : Type 0} (n : ℕ) (xs : List A) → length (take n xs) ≤ n
+take-within n xs = omega (arith, length-take n xs)
 
-pub after-append : (r : BookReader) (xs ys : List ℕ) → after r (xs ++ ys) ≡ after (after r xs) ys
-unfolding after
-after-append r [] ys = refl
-after-append r (x ∷ xs) ys = after-append (stepped r x) xs ys
+answers-append : (n : ℕ) (xs ys : List (List ℕ)) → answersFrom n (xs ++ ys) ≡ answersFrom n xs ++ answersFrom (n + length xs) ys
+unfolding answersFrom
+answers-append n [] ys = let z : n + 0 ≡ n = omega arith in rw z
+answers-append n (x ∷ xs) ys =
+    let k : n + suc (length xs) ≡ suc n + length xs = omega arith in
+    rw k (ap (λ (t : List ℕ). answerText n x ++ t) (answers-append (suc n) xs ys) ∙ sym (append-assoc (answerText n x) (answersFrom (suc n) xs) (answersFrom (suc n + length xs) ys)))
 
-of-chunks : (r : BookReader) (chunks : List (List ℕ)) → saidOf r chunks ≡ all r (joined chunks)
-unfolding all after said saidOf joined
-of-chunks r [] = refl
-of-chunks r (c ∷ cs) =
-    ap (λ (t : List ℕ). said r c ++ t) (of-chunks (after r c) cs)
-    ∙ sym (append-assoc (said r c) (said (after r c) (joined cs)) (lastWords (after (after r c) (joined cs))))
-    ∙ rw (said-append r c (joined cs), after-append r c (joined cs)) refl
+counted-append : (c : Counts) (xs ys : List (List ℕ)) → countedOver c (xs ++ ys) ≡ countedOver (countedOver c xs) ys
+unfolding countedOver
+counted-append c [] ys = refl
+counted-append c (x ∷ xs) ys = counted-append (counted c x) xs ys
 
--- ---- the lines that are left
-glue : List ℕ → List (List ℕ) → List (List ℕ)
-glue l [] = l ∷ []
-glue l (x ∷ xs) = (l ++ x) ∷ xs
+-- every line is counted
+counted-lines : (c : Counts) (ls : List (List ℕ)) → countedOver c ls .lines ≡ c .lines + length ls
+unfolding countedOver countedAs
+counted-lines c [] = omega arith
+counted-lines c (l ∷ ls) = counted-lines (counted c l) ls ∙ omega arith
 
--- the lines that are left where l of the first has been read
-from : List ℕ → List ℕ → List (List ℕ)
-from [] bytes = linesOf bytes
-from (a ∷ l) bytes = glue (a ∷ l) (linesOf bytes)
-
-lines-end : (b : ℕ) (bs : List ℕ) → b ≡ 10 → linesOf (b ∷ bs) ≡ [] ∷ linesOf bs
-unfolding partedAt
-lines-end b bs e = on-true (eq-eqb b 10 e) _ _
-
-lines-on : (b : ℕ) (bs : List ℕ) → (b ≡ 10 → ⊥) → linesOf (b ∷ bs) ≡ grow b (linesOf bs)
-unfolding partedAt
-lines-on b bs n = on-false (ne-eqb b 10 n) _ _
-
-from-end : (l bs : List ℕ) (b : ℕ) → b ≡ 10 → from l (b ∷ bs) ≡ l ∷ linesOf bs
-unfolding from glue
-from-end [] bs b e = lines-end b bs e
-from-end (a ∷ l) bs b e = ap (glue (a ∷ l)) (lines-end b bs e) ∙ ap (λ (x : List ℕ). x ∷ linesOf bs) (append-nil (a ∷ l))
-
-grow-glue : (b : ℕ) (ls : List (List ℕ)) → grow b ls ≡ glue (b ∷ []) ls
-unfolding grow glue
-grow-glue b [] = refl
-grow-glue b (f ∷ fs) = refl
-
-glue-grow : (l : List ℕ) (b : ℕ) (ls : List (List ℕ)) → glue l (grow b ls) ≡ glue (l ++ (b ∷ [])) ls
-unfolding grow glue
-glue-grow l b [] = refl
-glue-grow l b (f ∷ fs) = ap (λ (x : List ℕ). x ∷ fs) (sym (append-snoc l b f))
-
-from-on : (l bs : List ℕ) (b : ℕ) → (b ≡ 10 → ⊥) → from l (b ∷ bs) ≡ from (l ++ (b ∷ [])) bs
-unfolding from
-from-on [] bs b n = lines-on b bs n ∙ grow-glue b (linesOf bs)
-from-on (a ∷ l) bs b n = ap (glue (a ∷ l)) (lines-on b bs n) ∙ glue-grow (a ∷ l) b (linesOf bs)
-
--- ---- what the reader holds of a line
-record Holds (r : BookReader) (l : List ℕ) : Type 0 where
-  pub size : r .len ≡ length (take 141 l)
-  pub held : heldIn r ≡ take 141 l
-  pub room : length (r .line) ≡ 141
-
--- a line is known by its first 141 bytes
-known : (l : List ℕ) (t : Bool) → ltb 141 (length l) ≡ t → lineOf (take 141 l) ≡ lineOf l
-known l true e =
-    let h : 141 < length l = ltb-true 141 (length l) e in
-    let k : length (take 141 l) ≡ 141 = length-take-le 141 l (omega arith) in
-    line-long (take 141 l) (omega arith) ∙ sym (line-long l (omega arith))
-known l false e = ap lineOf (take-all 141 l (ltb-false 141 (length l) e))
-
-answer : (r : BookReader) (l : List ℕ) → Holds r l → lineOf (heldIn r) ≡ lineOf l
-answer r l h = ap lineOf (h .held) ∙ known l (ltb 141 (length l)) refl
-
-holds-none : (r : BookReader) → length (r .line) ≡ 141 → Holds (ended r) []
-unfolding ended
-holds-none r e = record { size = refl; held = refl; room = e }
-
-holds-more : (r : BookReader) (l : List ℕ) (b : ℕ) → Holds r l → r .len < 141 → Holds (more r b) (l ++ (b ∷ []))
-holds-more r l b h lt =
-    let s : length l < 141 = omega (arith, h .size, length-take 141 l) in
-    let whole : take 141 l ≡ l = take-all 141 l (omega arith) in
-    let n : r .len ≡ length l = h .size ∙ ap length whole in
-    let len : length (l ++ (b ∷ [])) ≡ length l + 1 = length-append l (b ∷ []) in
-    let same : take 141 (l ++ (b ∷ [])) ≡ l ++ (b ∷ []) = take-all 141 (l ++ (b ∷ [])) (omega arith) in
-    record {
-      size = rw same (omega arith);
-      held =
-          rw (add-one (r .len), take-suc-set (r .line) (r .len) b (omega (arith, h .room)), same) (ap (λ (x : List ℕ). x ++ (b ∷ [])) (h .held ∙ whole));
-      room = length-set (r .line) (r .len) b ∙ h .room;
-    }
-
-holds-long : (r : BookReader) (l : List ℕ) (b : ℕ) → Holds r l → 141 ≤ r .len → Holds r (l ++ (b ∷ []))
-holds-long r l b h le =
-    let s : 141 ≤ length l = omega (arith, h .size, length-take 141 l) in
-    let same : take 141 (l ++ (b ∷ [])) ≡ take 141 l = take-append-le 141 l (b ∷ []) s in
-    record { size = h .size ∙ ap length (sym same); held = h .held ∙ sym same; room = h .room }
-
--- ---- what is printed for the lines that follow those counted
+-- ---- chunk after chunk
+-- what is said of lines that follow those counted, the end included
 rest : Counts → List (List ℕ) → List ℕ
-rest c [] = countsText c
-rest c (l ∷ ls) = lineText (c .lines + 1) l ++ rest (counted c l) ls
+rest c lines = answersFrom (suc (c .lines)) lines ++ endText (countedOver c lines)
 
--- of as many of them as a book may still have
-restOf : BookReader → List (List ℕ) → List ℕ
-restOf r ls = rest (r .counts) (take (999999 - r .counts .lines) ls)
+rest-append : (c : Counts) (xs ys : List (List ℕ)) → rest c (xs ++ ys) ≡ answersFrom (suc (c .lines)) xs ++ rest (countedOver c xs) ys
+unfolding rest
+rest-append c xs ys =
+    let first = answersFrom (suc (c .lines)) xs in
+    let last = endText (countedOver (countedOver c xs) ys) in
+    let n : suc (c .lines) + length xs ≡ suc (countedOver c xs .lines) = omega (arith, counted-lines c xs) in
+    rw (answers-append (suc (c .lines)) xs ys, counted-append c xs ys)
+    (append-assoc first (answersFrom (suc (c .lines) + length xs) ys) last ∙ ap (λ (k : ℕ). first ++ (answersFrom k ys ++ last)) n)
 
-none-left : (r : BookReader) (ls : List (List ℕ)) → isFull r ≡ true → restOf r ls ≡ countsText (r .counts)
-unfolding isFull restOf rest
-none-left r ls f = let z : 999999 - r .counts .lines ≡ 0 = omega (arith, leb-true 999999 (r .counts .lines) f) in rw z refl
+-- as many lines as a book may still have after others
+left-after : (c : Counts) (ls : List (List ℕ)) → linesMax - countedOver c (take (linesMax - c .lines) ls) .lines ≡ linesMax - c .lines - length ls
+left-after c ls = let n = counted-lines c (take (linesMax - c .lines) ls) in let k = length-take (linesMax - c .lines) ls in omega (arith, n, k)
 
-no-line : (r : BookReader) → restOf r [] ≡ countsText (r .counts)
-unfolding restOf rest
-no-line r = ap (rest (r .counts)) (take-nil (999999 - r .counts .lines))
+of-chunks : (r : BookReader) (chunks : List (List ℕ)) → saidOf r chunks ≡ rest (r .counts) (readOf r (endedOver (r .lines) chunks))
+unfolding saidOf endedOver rest lastWords said after
+of-chunks r [] = refl
+of-chunks r (chunk ∷ chunks) =
+    let now = ended (r .lines) chunk in
+    let later = endedOver (linesAfter (r .lines) chunk) chunks in
+    let left = linesMax - r .counts .lines in
+    ap (λ (t : List ℕ). answersFrom (suc (r .counts .lines)) (take left now) ++ t) (of-chunks (after r chunk) chunks ∙ ap (λ (k : ℕ). rest (countedOver (r .counts) (take left now)) (take k later)) (left-after (r .counts) now))
+    ∙ sym (rest-append (r .counts) (take left now) (take (left - length now) later))
+    ∙ ap (rest (r .counts)) (sym (take-append left now later))
 
-one-line : (r : BookReader) (l : List ℕ) (ls : List (List ℕ)) → isFull r ≡ false → Holds r l → restOf r (l ∷ ls) ≡ endedText r ++ restOf (ended r) ls
-unfolding restOf rest endedText ended countedAs
-one-line r l ls f h =
-    let lt : r .counts .lines < 999999 = not-full r f in
-    let k : 999999 - r .counts .lines ≡ suc (999999 - (r .counts .lines + 1)) = omega arith in
-    rw (k, answer r l h) refl
+-- ---- a line is known by the bytes that are kept of it
+line-long : (l : List ℕ) → lineMax < length l → lineOf l ≡ refusedLine TooLong
+unfolding judgedBy isShort lineAs
+line-long l h = rw (on-false (lt-leb (length l) lineMax h))
 
--- ---- the end of the input
-none-held : (r : BookReader) (l : List ℕ) → Holds r l → r .len ≡ 0 → l ≡ []
-none-held r [] h e = refl
-none-held r (a ∷ l) h e = absurd (omega (arith, h .size, e))
+known : (l : List ℕ) (t : Bool) → ltb lineRoom (length l) ≡ t → lineOf (take lineRoom l) ≡ lineOf l
+known l true e =
+    let h : lineRoom < length l = ltb-true lineRoom (length l) e in
+    let k : length (take lineRoom l) ≡ lineRoom = length-take-le lineRoom l (omega arith) in
+    line-long (take lineRoom l) (omega arith) ∙ sym (line-long l (omega arith))
+known l false e = ap lineOf (take-all lineRoom l (ltb-false lineRoom (length l) e))
 
-some-held : (r : BookReader) (l : List ℕ) → Holds r l → (r .len ≡ 0 → ⊥) → from l [] ≡ l ∷ []
-unfolding from glue partedAt
-some-held r [] h n = absurd (n (h .size))
-some-held r (a ∷ l) h n = refl
+short-take : (n : ℕ) (ls : List (List ℕ)) → take n (shortened ls) ≡ shortened (take n ls)
+unfolding shortened
+short-take zero ls = refl
+short-take (suc n) [] = refl
+short-take (suc n) (l ∷ ls) = ap (λ (x : List (List ℕ)). take lineRoom l ∷ x) (short-take n ls)
 
-from-none : from [] [] ≡ []
-unfolding from partedAt
-from-none = refl
+short-length : (ls : List (List ℕ)) → length (shortened ls) ≡ length ls
+unfolding shortened
+short-length [] = refl
+short-length (l ∷ ls) = ap suc (short-length ls)
 
-last : (r : BookReader) (l : List ℕ) (t u : Bool) → isFull r ≡ t → eqb (r .len) 0 ≡ u → Holds r l → lastWords r ≡ restOf r (from l [])
-unfolding lastWords
-last r l true u f e h = on-true f _ _ ∙ sym (none-left r (from l []) f)
-last r l false true f e h =
-    on-false f _ _ ∙ on-true e _ _ ∙ sym (ap (λ (x : List ℕ). restOf r (from x [])) (none-held r l h (eqb-true (r .len) 0 e)) ∙ ap (restOf r) from-none ∙ no-line r)
-last r l false false f e h =
-    on-false f _ _ ∙ on-false e _ _
-    ∙ sym (ap (restOf r) (some-held r l h (eqb-false (r .len) 0 e)) ∙ one-line r l [] f h ∙ ap (λ (x : List ℕ). endedText r ++ x) (no-line (ended r)))
+short-answers : (n : ℕ) (ls : List (List ℕ)) → answersFrom n (shortened ls) ≡ answersFrom n ls
+unfolding answersFrom shortened
+short-answers n [] = refl
+short-answers n (l ∷ ls) = rw (known l (ltb lineRoom (length l)) refl, short-answers (suc n) ls)
 
--- ---- byte by byte
--- from the reader r on, where l of a line has been read
-Told : BookReader → List ℕ → List ℕ → Type 0
-Told r l bytes = all r bytes ≡ restOf r (from l bytes)
+short-counted : (c : Counts) (ls : List (List ℕ)) → countedOver c (shortened ls) ≡ countedOver c ls
+unfolding countedOver shortened
+short-counted c [] = refl
+short-counted c (l ∷ ls) =
+    ap (λ (b : BookLine). countedOver (countedAs c (b .answer) (b .capture)) (shortened ls)) (known l (ltb lineRoom (length l)) refl)
+    ∙ short-counted (counted c l) ls
 
-all-step : (r : BookReader) (b : ℕ) (bs : List ℕ) → all r (b ∷ bs) ≡ stepText r b ++ all (stepped r b) bs
-unfolding all said after
-all-step r b bs = append-assoc (stepText r b) (said (stepped r b) bs) (lastWords (after (stepped r b) bs))
-
-module _ (b : ℕ) (bs : List ℕ) (r : BookReader) (l : List ℕ) (h : Holds r l) (ih : (r′ : BookReader) (l′ : List ℕ) → Holds r′ l′ → Told r′ l′ bs) where
-  Goal : Type 0
-  Goal = stepText r b ++ all (stepped r b) bs ≡ restOf r (from l (b ∷ bs))
-
-  full-way : isFull r ≡ true → Goal
-  unfolding Goal Told
-  full-way f = rw (full-text r b f, full-step r b f) (ih r l h ∙ none-left r (from l bs) f ∙ sym (none-left r (from l (b ∷ bs)) f))
-
-  lf-way : isFull r ≡ false → b ≡ 10 → Goal
-  unfolding Goal Told from
-  lf-way f e =
-      rw (end-text r b f e, end-step r b f e, from-end l bs b e)
-      (ap (λ (t : List ℕ). endedText r ++ t) (ih (ended r) [] (holds-none r (h .room))) ∙ sym (one-line r l (linesOf bs) f h))
-
-  on-way : isFull r ≡ false → (b ≡ 10 → ⊥) → (v : Bool) → ltb (r .len) 141 ≡ v → Goal
-  unfolding Goal Told restOf
-  on-way f n true e =
-      rw (line-text r b f n, more-step r b f n (ltb-true (r .len) 141 e), from-on l bs b n)
-      (ih (more r b) (l ++ (b ∷ [])) (holds-more r l b h (ltb-true (r .len) 141 e)))
-  on-way f n false e =
-      rw (line-text r b f n, long-step r b f n (ltb-false (r .len) 141 e), from-on l bs b n)
-      (ih r (l ++ (b ∷ [])) (holds-long r l b h (ltb-false (r .len) 141 e)))
-
-  way : (t u : Bool) → isFull r ≡ t → eqb b 10 ≡ u → Goal
-  way true u f e = full-way f
-  way false true f e = lf-way f (eqb-true b 10 e)
-  way false false f e = on-way f (eqb-false b 10 e) (ltb (r .len) 141) refl
-
-told : (bytes : List ℕ) (r : BookReader) (l : List ℕ) → Holds r l → Told r l bytes
-unfolding Told Goal all said after
-told [] r l h = last r l (isFull r) (eqb (r .len) 0) refl refl h
-told (b ∷ bs) r l h = all-step r b bs ∙ way b bs r l h (told bs) (isFull r) (eqb b 10) refl refl
+short-rest : (c : Counts) (ls : List (List ℕ)) → rest c (shortened ls) ≡ rest c ls
+unfolding rest
+short-rest c ls = rw (short-answers (suc (c .lines)) ls, short-counted c ls)
 
 -- ---- counts
-count-more : (t : Bool) (n : ℕ) → n < 999999 → pick t (oneMore n) n ≡ n + bit t
+count-more : (t : Bool) (n : ℕ) → n < linesMax → pick t (oneMore n) n ≡ n + bit t
 unfolding pick
 count-more true n h = omega arith
 count-more false n h = omega arith
 
-pick-le : (t : Bool) (n m : ℕ) → n ≤ m → m < 999999 → pick t (oneMore n) n ≤ m + 1
+pick-le : (t : Bool) (n m : ℕ) → n ≤ m → m < linesMax → pick t (oneMore n) n ≤ m + 1
 unfolding pick
 pick-le true n m h k = omega arith
 pick-le false n m h k = omega arith
 
-end-same : {a b c x y z : ℕ} → a ≡ x → b ≡ y → c ≡ z → endText a b c ≡ endText x y z
-end-same e f g = rw (e, f, g)
+counts-same : {a b c x y z : ℕ} → a ≡ x → b ≡ y → c ≡ z
+    → _≡_ {A = Counts} (record { lines = a; decoded = b; refused = c }) (record { lines = x; decoded = y; refused = z })
+counts-same e f g = rw (e, f, g)
 
-counts-add : (ls : List (List ℕ)) (c : Counts) → c .decoded ≤ c .lines → c .refused ≤ c .lines → c .lines + length ls ≤ 999999
-    → rest c ls
-    ≡ answersFrom (c .lines + 1) ls ++ endText (c .lines + length ls) (c .decoded + countOf isDecoded ls) (c .refused + countOf isRefused ls)
-unfolding rest answersFrom countOf countedAs
-counts-add [] c d k h = end-same (omega arith) (omega arith) (omega arith)
+-- no count reaches its limit before the lines do
+counts-add : (ls : List (List ℕ)) (c : Counts) → c .decoded ≤ c .lines → c .refused ≤ c .lines → c .lines + length ls ≤ linesMax
+    → countedOver c ls
+    ≡ record { lines = c .lines + length ls; decoded = c .decoded + countOf isDecodedLine ls; refused = c .refused + countOf isRefusedLine ls }
+unfolding countedOver countOf countedAs
+counts-add [] c d k h = counts-same (omega arith) (omega arith) (omega arith)
 counts-add (l ∷ ls) c d k h =
-    let lt : c .lines < 999999 = omega arith in
-    let de : counted c l .decoded ≡ c .decoded + bit (isDecoded l) = count-more (isDecoded l) (c .decoded) (omega arith) in
-    let re : counted c l .refused ≡ c .refused + bit (isRefused l) = count-more (isRefused l) (c .refused) (omega arith) in
-    ap (λ (t : List ℕ). lineText (c .lines + 1) l ++ t)
-    (counts-add ls (counted c l) (pick-le (isDecoded l) (c .decoded) (c .lines) d lt) (pick-le (isRefused l) (c .refused) (c .lines) k lt) (omega arith)
-    ∙ rw (add-one (c .lines + 1)) (ap (λ (t : List ℕ). answersFrom (suc (c .lines + 1)) ls ++ t) (end-same (omega arith) (omega arith) (omega arith))))
-    ∙ sym (append-assoc (lineText (c .lines + 1) l) _ _)
+    let lt : c .lines < linesMax = omega arith in
+    let de : counted c l .decoded ≡ c .decoded + bit (isDecodedLine l) = count-more (isDecodedLine l) (c .decoded) (omega arith) in
+    let re : counted c l .refused ≡ c .refused + bit (isRefusedLine l) = count-more (isRefusedLine l) (c .refused) (omega arith) in
+    counts-add ls (counted c l) (pick-le (isDecodedLine l) (c .decoded) (c .lines) d lt) (pick-le (isRefusedLine l) (c .refused) (c .lines) k lt) (omega arith)
+    ∙ counts-same (omega arith) (omega arith) (omega arith)
 
-from-start : (ls : List (List ℕ)) → length ls ≤ 999999 → rest (newReader .counts) ls ≡ reportOf ls
-unfolding newReader reportOf
-from-start ls h =
-    counts-add ls (newReader .counts) (omega arith) (omega arith) (omega arith)
-    ∙ ap (λ (t : List ℕ). answersFrom 1 ls ++ t) (end-same (omega arith) (omega arith) (omega arith))
-
-report-rest : (lines : List (List ℕ)) → restOf newReader lines ≡ reportOf (take 999999 lines)
-unfolding restOf newReader
-report-rest lines = from-start (take 999999 lines) (omega (arith, length-take 999999 lines))
-
-new-holds : Holds newReader []
-unfolding newReader
-new-holds = record { size = refl; held = refl; room = refl }
+-- ---- the report
+from-start : (ls : List (List ℕ)) → length ls ≤ linesMax → rest noCounts ls ≡ reportOf ls
+unfolding rest reportOf
+from-start ls h = ap (λ (c : Counts). answersFrom 1 ls ++ endText c) (counts-add ls noCounts (omega arith) (omega arith) (omega arith) ∙ counts-same (omega arith) (omega arith) (omega arith))
 
 pub reports : Reports
-unfolding Told report from
-reports chunks = of-chunks newReader chunks ∙ told (joined chunks) newReader [] new-holds ∙ report-rest (linesOf (joined chunks))
+unfolding report newReader
+reports chunks =
+    let lines = linesOf (joined chunks) in
+    of-chunks newReader chunks
+    ∙ ap (λ (ls : List (List ℕ)). rest noCounts (take linesMax ls)) (lines-of-any-chunks chunks)
+    ∙ ap (rest noCounts) (short-take linesMax lines)
+    ∙ short-rest noCounts (take linesMax lines)
+    ∙ from-start (take linesMax lines) (take-within linesMax lines)
+
+-- ---- more than is read
+or-test : (k m n : ℕ) (t : Bool) → ltb k m ≡ t → ltb k m || ltb (k - m) n ≡ ltb k (m + n)
+or-test k m n true e = rw e (sym (lt-ltb k (m + n) (omega (arith, ltb-true k m e))))
+or-test k m n false e =
+    let within = ltb-false k m e in
+    rw e (same-test (k - m) n k (m + n) (λ h. omega arith) (λ h. omega arith))
+
+one-over : (n : ℕ) → leb linesMax n ≡ ltb (linesMax - n) 1
+one-over n = split (decLt n linesMax)
+  where
+    split : Dec (n < linesMax) → leb linesMax n ≡ ltb (linesMax - n) 1
+    split (yes h) = lt-leb linesMax n h ∙ sym (le-ltb (linesMax - n) 1 (omega arith))
+    split (no h) = le-leb linesMax n (omega arith) ∙ sym (lt-ltb (linesMax - n) 1 (omega arith))
+
+-- the line that waits is one too many exactly where the reader is full and a byte waits
+last-over : (n : ℕ) (lines : Lines) (u : Bool) → eqb (lines .len) 0 ≡ u → leb linesMax n && ltb 0 (lines .len) ≡ ltb (linesMax - n) (length (lastOf lines))
+unfolding lastOf
+last-over n lines true f =
+    let none : lines .len ≤ 0 = omega (arith, eqb-true (lines .len) 0 f) in
+    ap (λ (t : Bool). leb linesMax n && t) (le-ltb 0 (lines .len) none) ∙ and-false (leb linesMax n) ∙ sym (le-ltb (linesMax - n) 0 (omega arith))
+    ∙ ap (λ (ls : List (List ℕ)). ltb (linesMax - n) (length ls)) (sym (on-true f [] (waiting lines ∷ [])))
+last-over n lines false f =
+    let some : 0 < lines .len = pos-of-ne-zero (eqb-false (lines .len) 0 f) in
+    ap (λ (t : Bool). leb linesMax n && t) (lt-ltb 0 (lines .len) some) ∙ and-true (leb linesMax n) ∙ one-over n
+    ∙ ap (λ (ls : List (List ℕ)). ltb (linesMax - n) (length ls)) (sym (on-false f [] (waiting lines ∷ [])))
+
+over-all : (r : BookReader) (chunks : List (List ℕ)) → isOver (afterAll r chunks) ≡ r .over || ltb (linesMax - r .counts .lines) (length (endedOver (r .lines) chunks))
+unfolding isOver isFull afterAll endedOver after
+over-all r [] = ap (λ (t : Bool). r .over || t) (last-over (r .counts .lines) (r .lines) (eqb (r .lines .len) 0) refl)
+over-all r (chunk ∷ chunks) =
+    let now = ended (r .lines) chunk in
+    let later = endedOver (linesAfter (r .lines) chunk) chunks in
+    let left = linesMax - r .counts .lines in
+    over-all (after r chunk) chunks
+    ∙ ap (λ (k : ℕ). r .over || ltb left (length now) || ltb k (length later)) (left-after (r .counts) now)
+    ∙ or-assoc (r .over) (ltb left (length now)) (ltb (left - length now) (length later))
+    ∙ ap (λ (t : Bool). r .over || t) (or-test left (length now) (length later) (ltb left (length now)) refl)
+    ∙ ap (λ (k : ℕ). r .over || ltb left k) (sym (length-append now later))
+
+pub tells-more : TellsMore
+unfolding newReader
+tells-more chunks =
+    over-all newReader chunks
+    ∙ ap (λ (ls : List (List ℕ)). ltb linesMax (length ls)) (lines-of-any-chunks chunks)
+    ∙ ap (ltb linesMax) (short-length (linesOf (joined chunks)))

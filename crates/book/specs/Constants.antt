@@ -1,6 +1,7 @@
--- The public constant. Assumes nothing.
+-- The public constants. Assumes nothing.
 use Rattle.book.specs.declared.PublicConstants.{PublicConstants}
+use Rattle.book.specs.Report.{linesMax}
+use Rattle.book.specs.Reader.{finishMax}
 
--- It stops after so many lines.
 abbrev pub publicConstants : PublicConstants
-publicConstants = record { «max_lines» = 999999 }
+publicConstants = record { «max_lines» = linesMax; «finish_max» = finishMax }

@@ -1,5 +1,5 @@
-pub mod Code
-pub mod Reader
 pub mod Report
+pub mod Reader
 pub mod Whole
+pub mod Code
 pub mod Constants

@@ -1,66 +1,76 @@
 -- The reader that is fed: what it has taken in of a book, and what it has said by then. Assumes nothing.
-use Prim.Native.Nat.{ℕ, _+_, _*_, min}
-use mathlib.Core.Bool.{Bool}
+use Prim.Native.Nat.{ℕ, suc, _+_, _*_, _-_, min}
+use mathlib.Core.Bool.{Bool, false, _&&_, _||_}
 use mathlib.Core.List.{List, [], _∷_, _++_}
-use lib.Dec.{eqb, ltb, leb}
-use lib.ListN.{length, take, set, replicate}
+use lib.Dec.{ltb, leb}
+use lib.ListN.{length, take}
 use lib.Seq.{sets}
 use Rattle.laws.specs.Pick.{pick}
+use Rattle.lines.specs.declared.Lines.{Lines}
+use Rattle.lines.specs.Lines.{newLines}
+use Rattle.lines.specs.Chunk.{ended, after as linesAfter}
+use Rattle.lines.specs.AnyChunks.{lastOf}
 use Rattle.bench_text.specs.declared.LineAnswer.{LineAnswer}
 use Rattle.bench_text.specs.declared.BookLine.{BookLine}
+use Rattle.bench_text.specs.declared.Capture.{Capture}
 use Rattle.bench_text.specs.Line.{lineOf}
-use Rattle.bench_answers.specs.Answer.{endText}
-use Rattle.book.specs.declared.Counts.{Counts}
+use Rattle.bench_answers.specs.declared.Counts.{Counts}
+use Rattle.bench_answers.specs.Answer.{rowMax, endMax, endText}
 use Rattle.book.specs.declared.BookReader.{BookReader}
 use Rattle.book.specs.declared.Fed.{Fed}
 use Rattle.book.specs.declared.Said.{Said}
 use Rattle.book.specs.declared.Said.the-variants.{Bytes, NoRoom}
-use Rattle.book.specs.Report.{lineText, isDecodedAs, isRefusedAs}
+use Rattle.book.specs.Report.{linesMax, answersFrom, isDecodedAs, isRefusedAs}
+
+abbrev pub noCounts : Counts
+noCounts = record { lines = 0; decoded = 0; refused = 0 }
 
 unfoldable pub newReader : BookReader
-newReader = record { line = replicate 141 0; len = 0; counts = record { lines = 0; decoded = 0; refused = 0 } }
+newReader = record { lines = newLines; counts = noCounts; over = false }
 
 -- every line that a book may have has been read
 unfoldable pub isFull : BookReader → Bool
-isFull r = leb 999999 (r .counts .lines)
+isFull r = leb linesMax (r .counts .lines)
 
--- the line whose end has not come
-abbrev pub heldIn : BookReader → List ℕ
-heldIn r = take (r .len) (r .line)
+-- and a byte came after them: that of a line which has ended, or of the one that waits
+unfoldable pub isOver : BookReader → Bool
+isOver r = r .over || (isFull r && ltb 0 (r .lines .len))
 
--- ---- a line has ended
+-- ---- lines that have ended
 -- no count passes the most lines that a book may have
 abbrev pub oneMore : ℕ → ℕ
-oneMore n = min (n + 1) 999999
+oneMore n = min (n + 1) linesMax
 
-unfoldable pub countedAs : Counts → LineAnswer → List ℕ → Counts
-countedAs c answer samples =
+unfoldable pub countedAs : Counts → LineAnswer → Capture → Counts
+countedAs c answer capture =
     record {
       lines = c .lines + 1;
-      decoded = pick (isDecodedAs answer samples) (oneMore (c .decoded)) (c .decoded);
+      decoded = pick (isDecodedAs answer capture) (oneMore (c .decoded)) (c .decoded);
       refused = pick (isRefusedAs answer) (oneMore (c .refused)) (c .refused);
     }
 
 abbrev pub counted : Counts → List ℕ → Counts
-counted c line = countedAs c (lineOf line .answer) (lineOf line .samples)
+counted c line = countedAs c (lineOf line .answer) (lineOf line .capture)
 
-unfoldable pub ended : BookReader → BookReader
-ended r = record { line = r .line; len = 0; counts = counted (r .counts) (heldIn r) }
+unfoldable pub countedOver : Counts → List (List ℕ) → Counts
+countedOver c [] = c
+countedOver c (line ∷ lines) = countedOver (counted c line) lines
 
-unfoldable pub endedText : BookReader → List ℕ
-endedText r = lineText (r .counts .lines + 1) (heldIn r)
+-- those of the lines that are read: as many as the book may still have
+abbrev pub readOf : BookReader → List (List ℕ) → List (List ℕ)
+readOf r lines = take (linesMax - r .counts .lines) lines
 
--- ---- a byte
--- a byte of a line is kept while there is room; 141 bytes tell that a line is too long
-unfoldable pub kept : BookReader → ℕ → BookReader
-kept r byte = pick (ltb (r .len) 141) (record { line = set (r .line) (r .len) byte; len = r .len + 1; counts = r .counts }) r
+-- ---- a chunk
+unfoldable pub after : BookReader → List ℕ → BookReader
+after r chunk =
+    record {
+      lines = linesAfter (r .lines) chunk;
+      counts = countedOver (r .counts) (readOf r (ended (r .lines) chunk));
+      over = r .over || ltb (linesMax - r .counts .lines) (length (ended (r .lines) chunk));
+    }
 
--- LF ends the line. A full reader takes nothing in.
-unfoldable pub stepped : BookReader → ℕ → BookReader
-stepped r byte = pick (isFull r) r (pick (eqb byte 10) (ended r) (kept r byte))
-
-unfoldable pub stepText : BookReader → ℕ → List ℕ
-stepText r byte = pick (isFull r) [] (pick (eqb byte 10) (endedText r) [])
+unfoldable pub said : BookReader → List ℕ → List ℕ
+said r chunk = answersFrom (suc (r .counts .lines)) (readOf r (ended (r .lines) chunk))
 
 -- ---- what was written
 -- how many bytes there are at the buffer's start
@@ -68,37 +78,30 @@ unfoldable pub bytesIn : Said → ℕ
 bytesIn (Bytes n) = n
 bytesIn NoRoom = 0
 
--- ---- a chunk
-unfoldable pub after : BookReader → List ℕ → BookReader
-after r [] = r
-after r (byte ∷ bytes) = after (stepped r byte) bytes
+-- room for a row for each byte of the chunk is always enough; with less nothing is done
+abbrev pub feedMax : List ℕ → ℕ
+feedMax chunk = rowMax * length chunk
 
-unfoldable pub said : BookReader → List ℕ → List ℕ
-said r [] = []
-said r (byte ∷ bytes) = stepText r byte ++ said (stepped r byte) bytes
-
--- 46 bytes for each byte of the chunk are always room enough; with less nothing is done
 unfoldable pub fed : BookReader → List ℕ → ℕ → Fed
 fed r chunk room =
-    pick (leb (46 * length chunk) room) (record { reader = after r chunk; said = Bytes (length (said r chunk)) })
-    (record { reader = r; said = NoRoom })
+    pick (leb (feedMax chunk) room) (record { reader = after r chunk; said = Bytes (length (said r chunk)) }) (record { reader = r; said = NoRoom })
 
 unfoldable pub bufferFed : BookReader → List ℕ → List ℕ → List ℕ
-bufferFed r chunk buffer = pick (leb (46 * length chunk) (length buffer)) (sets buffer 0 (said r chunk)) buffer
+bufferFed r chunk buffer = pick (leb (feedMax chunk) (length buffer)) (sets buffer 0 (said r chunk)) buffer
 
 -- ---- the end of the input
-abbrev pub countsText : Counts → List ℕ
-countsText c = endText (c .lines) (c .decoded) (c .refused)
-
--- A line without its LF is answered too.
+-- A line without its LF is answered too, and then the counts are told.
 unfoldable pub lastWords : BookReader → List ℕ
 lastWords r =
-    pick (isFull r) (countsText (r .counts))
-    (pick (eqb (r .len) 0) (countsText (r .counts)) (endedText r ++ countsText (ended r .counts)))
+    answersFrom (suc (r .counts .lines)) (readOf r (lastOf (r .lines)))
+    ++ endText (countedOver (r .counts) (readOf r (lastOf (r .lines))))
 
--- 83 bytes are always room enough: 46 for a row (the longest has 45), and 37 for an END line
+-- room for a row and an END line is always enough
+abbrev pub finishMax : ℕ
+finishMax = rowMax + endMax
+
 unfoldable pub finished : BookReader → ℕ → Said
-finished r room = pick (leb 83 room) (Bytes (length (lastWords r))) NoRoom
+finished r room = pick (leb finishMax room) (Bytes (length (lastWords r))) NoRoom
 
 unfoldable pub bufferFinished : BookReader → List ℕ → List ℕ
-bufferFinished r buffer = pick (leb 83 (length buffer)) (sets buffer 0 (lastWords r)) buffer
+bufferFinished r buffer = pick (leb finishMax (length buffer)) (sets buffer 0 (lastWords r)) buffer

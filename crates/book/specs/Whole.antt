@@ -2,18 +2,27 @@
 use Prim.Native.Nat.{ℕ}
 use mathlib.Core.List.{List, [], _∷_, _++_}
 use mathlib.Core.Path.{_≡_}
+use lib.Dec.{ltb}
+use lib.ListN.{length}
+use Rattle.lines.specs.Lines.{linesOf}
+use Rattle.lines.specs.AnyChunks.{joined}
 use Rattle.book.specs.declared.BookReader.{BookReader}
-use Rattle.book.specs.Reader.{newReader, after, said, lastWords}
-use Rattle.book.specs.Report.{report}
+use Rattle.book.specs.Report.{linesMax, report}
+use Rattle.book.specs.Reader.{newReader, isOver, after, said, lastWords}
 
 -- what a reader says of chunk after chunk, and then at the end of the input
 unfoldable pub saidOf : BookReader → List (List ℕ) → List ℕ
 saidOf r [] = lastWords r
 saidOf r (chunk ∷ chunks) = said r chunk ++ saidOf (after r chunk) chunks
 
-unfoldable pub joined : List (List ℕ) → List ℕ
-joined [] = []
-joined (chunk ∷ chunks) = chunk ++ joined chunks
-
 abbrev pub Reports : Type 0
 Reports = (chunks : List (List ℕ)) → saidOf newReader chunks ≡ report (joined chunks)
+
+-- the reader after chunk after chunk
+unfoldable pub afterAll : BookReader → List (List ℕ) → BookReader
+afterAll r [] = r
+afterAll r (chunk ∷ chunks) = afterAll (after r chunk) chunks
+
+-- It tells that there is more than it reads exactly where the input has more lines than a book may have.
+abbrev pub TellsMore : Type 0
+TellsMore = (chunks : List (List ℕ)) → isOver (afterAll newReader chunks) ≡ ltb linesMax (length (linesOf (joined chunks)))

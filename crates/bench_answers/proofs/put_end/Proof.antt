@@ -1,9 +1,8 @@
 -- `bench_answers::put_end` meets its contract. Assumes nothing.
 use native.Mathlib.Omega.{arith}
 use borrow.Author.Needs.{needs}
-use denote.Ref.{now}
-use Rattle.bench_answers.proofs.Lengths.{length-field, length-end}
-use Rattle.bench_answers.proofs.Writes.{then, end-parts, is-room, enough, no-room, unwritten, written}
+use Rattle.text.specs.Letters.{word}
+use Rattle.bench_answers.proofs.Lines.{put, then, no-line, line, end-parts, end-short}
 use Rattle.bench_answers.proofs.put_end.Statement.{statement}
 use Rattle.bench_answers.proofs.put_end.Tie as tie
 
@@ -11,38 +10,22 @@ has-room-requires : tie.Need-has-room-requires
 has-room-requires c κs = search needs
 
 returns : tie.Need-returns
-returns c = unwritten 37 _ _ _ (no-room (c .before .has-room .ensures) (c .if1 .taken))
+returns c = no-line _ _ _ _ (c .before .has-room .ensures) (c .if1 .taken)
 
 slice-aggregate-put-text : tie.Need-slice-aggregate-put-text
 slice-aggregate-put-text c = search needs
 
 put-text-requires : tie.Need-put-text-requires
-put-text-requires c κs =
-    let entry = c .before .before in
-    let a = entry .before .before .before .args in
-    let space = enough 37 (a .at) (now (a .out)) (entry .before .has-room .ensures) (entry .if1 .left) in
-    omega arith
+put-text-requires c κs = search needs
 
 put-field-requires : tie.Need-put-field-requires
-put-field-requires c κs =
-    let entry = c .before .before .before .before .before .before in
-    let a = entry .before .before .before .args in
-    let space = enough 37 (a .at) (now (a .out)) (entry .before .has-room .ensures) (entry .if1 .left) in
-    omega (arith, length-field 9 (a .lines) 9 (omega arith))
+put-field-requires c κs = search needs
 
 put-field-requires-2 : tie.Need-put-field-requires-2
-put-field-requires-2 c κs =
-    let entry = c .before .before .before .before .before .before .before .before .before .before in
-    let a = entry .before .before .before .args in
-    let space = enough 37 (a .at) (now (a .out)) (entry .before .has-room .ensures) (entry .if1 .left) in
-    omega (arith, length-field 9 (a .lines) 9 (omega arith), length-field 9 (a .decoded) 9 (omega arith))
+put-field-requires-2 c κs = search needs
 
 put-field-requires-3 : tie.Need-put-field-requires-3
-put-field-requires-3 c κs =
-    let entry = c .before .before .before .before .before .before .before .before .before .before .before .before .before .before in
-    let a = entry .before .before .before .args in
-    let space = enough 37 (a .at) (now (a .out)) (entry .before .has-room .ensures) (entry .if1 .left) in
-    omega (arith, length-field 9 (a .lines) 9 (omega arith), length-field 9 (a .decoded) 9 (omega arith), length-field 9 (a .refused) 10 (omega arith))
+put-field-requires-3 c κs = search needs
 
 same-length : tie.Need-same-length
 same-length c = search needs
@@ -54,11 +37,11 @@ returns-2 c =
     let c₂ = c₃ .before .before .before .before in
     let c₁ = c₂ .before .before .before .before in
     let entry = c₁ .before .before .before in
-    let a = entry .before .before .before .args in
-    let short = length-end (a .lines) (a .decoded) (a .refused) (omega arith) (omega arith) (omega arith) in
-    rw (end-parts (a .lines) (a .decoded) (a .refused))
-    (written 37 (is-room (entry .before .has-room .ensures) (entry .if1 .left)) short
-    (then (then (then (c₁ .put-text .ensures) (c₂ .put-field .ensures)) (c₃ .put-field2 .ensures)) (c₄ .put-field3 .ensures)))
+    let start = entry .before .before .before in
+    let counts = start .args .counts in
+    let held = start .good .1 .1 .0 in
+    let parts = then (put (word "END\t") (c₁ .put-text .ensures)) (then (c₂ .put-field .ensures) (then (c₃ .put-field2 .ensures) (c₄ .put-field3 .ensures))) in
+    line _ _ _ _ (entry .before .has-room .ensures) (entry .if1 .left) (end-short counts (omega arith) (omega arith) (omega arith)) (rw (end-parts counts) parts)
 
 pub put-end-spec : {M : Type 1} → statement M
 put-end-spec =

@@ -1,7 +1,6 @@
 -- `bench_reader::finish` meets its contract. Assumes nothing.
 use native.Mathlib.Omega.{arith}
-use mathlib.Core.Path.{sym}
-use lib.Seq.{length-take-le}
+use lib.ListN.{length-take}
 use Rattle.bench_reader.proofs.Moves.{last-text}
 use borrow.Author.Needs.{needs}
 use Rattle.bench_reader.proofs.finish.Statement.{statement}
@@ -13,19 +12,14 @@ finish-requires c κs = search needs
 bytes-in-requires : tie.Need-bytes-in-requires
 bytes-in-requires c κs = search needs
 
-slice-aggregate-emit-last : tie.Need-slice-aggregate-emit-last
-slice-aggregate-emit-last c =
-    let finish = c .before .before .before .before .finish .ensures in
-    sym (length-take-le _ _ (omega (arith, finish .1 .1, c .before .before .before .bytes-in .ensures)))
+slice-aggregate-write-text : tie.Need-slice-aggregate-write-text
+slice-aggregate-write-text c =
+    let text = c .before .before .before in
+    let end = text .before .finish in
+    omega (arith, length-take (text .bytes-in .result) (end .last .1 .0), end .ensures .1 .1, text .bytes-in .ensures)
 
-emit-last-requires : tie.Need-emit-last-requires
-emit-last-requires c κs =
-    let finish = c .before .before .before .before in
-    let start = finish .before .before in
-    (start .pre, last-text _ _ (omega arith) (finish .finish .ensures .0) (finish .finish .ensures .1 .0) (finish .finish .ensures .1 .1) (c .before .before .before .bytes-in .ensures))
-
-returns : tie.Need-returns
-returns c = search needs
+write-text-requires : tie.Need-write-text-requires
+write-text-requires c κs = search needs
 
 slice-aggregate-complain : tie.Need-slice-aggregate-complain
 slice-aggregate-complain c = search needs
@@ -33,8 +27,17 @@ slice-aggregate-complain c = search needs
 complain-requires : tie.Need-complain-requires
 complain-requires c κs = search needs
 
+returns : tie.Need-returns
+returns c =
+    let text = c .before .before .before .before .before .before .before in
+    let end = text .before .finish .ensures in
+    rw (last-text _ _ (omega arith) (end .0) (end .1 .0) (end .1 .1) (text .bytes-in .ensures)) at (c .before .before .before .write-text .ensures)
+
 returns-2 : tie.Need-returns-2
-returns-2 c = search needs
+returns-2 c =
+    let text = c .before .before .before .before .before in
+    let end = text .before .finish .ensures in
+    rw (last-text _ _ (omega arith) (end .0) (end .1 .0) (end .1 .1) (text .bytes-in .ensures)) at (c .before .write-text .ensures)
 
 pub finish-spec : {M : Type 1} → statement M
 finish-spec =
@@ -42,9 +45,9 @@ finish-spec =
     (tie.spec
     finish-requires
     bytes-in-requires
-    slice-aggregate-emit-last
-    emit-last-requires
-    returns
+    slice-aggregate-write-text
+    write-text-requires
     slice-aggregate-complain
     complain-requires
+    returns
     returns-2)

@@ -1,21 +1,25 @@
 -- `bench_reader::read_all` meets its contract. Assumes nothing.
+use borrow.Author.Tests.{not-true, not-false}
+use Rattle.bench_reader.proofs.Moves.{again, stopped}
+use Prim.Native.Nat.{_-_, _≤_}
+use native.Mathlib.Omega.{arith}
+use Rattle.bench_reader.specs.Run.{Ran, begun, readsMax}
+use Rattle.bench_reader.specs.declared.Next.the-variants.{More}
 use borrow.Author.Needs.{needs}
-use Rattle.bench_reader.specs.Reached.{Reached}
-use Rattle.bench_reader.proofs.Moves.{new-reached, goes-on}
 use Rattle.bench_reader.proofs.read_all.Statement.{statement}
 use Rattle.bench_reader.proofs.read_all.Tie as tie
 
 abbrev Inv-loop : tie.InvT-loop
-Inv-loop chunk₀ out₀ reader₀ turns₀ chunk out reader turns = Reached reader
+Inv-loop chunk₀ out₀ reader₀ reads₀ chunk out reader reads = Ran reads reader More × (reads ≤ readsMax)
 
 abbrev μ-loop : tie.MeasureT-loop
-μ-loop chunk₀ out₀ reader₀ turns₀ chunk out reader turns = turns
+μ-loop chunk₀ out₀ reader₀ reads₀ chunk out reader reads = readsMax - reads
 
 new-requires : tie.Need-new-requires Inv-loop μ-loop
 new-requires c κs = search needs
 
 loop-holds : tie.Need-loop-holds Inv-loop μ-loop
-loop-holds c = new-reached (c .new .ensures)
+loop-holds c = (rw (c .new .ensures) begun, omega arith)
 
 turn-requires : tie.Need-turn-requires Inv-loop μ-loop
 turn-requires c κs = search needs
@@ -24,19 +28,21 @@ goes-on-requires : tie.Need-goes-on-requires Inv-loop μ-loop
 goes-on-requires c κs = search needs
 
 returns : tie.Need-returns Inv-loop μ-loop
-returns c = goes-on _ (c .before .before .before .before .before .before .loop .inv) (c .before .before .turn .ensures)
+returns c = (c .before .before .turn .ensures .1, stopped _ (c .before .goes-on .ensures) (not-true _ (c .if1 .taken)))
 
-sub-turns : tie.Need-sub-turns Inv-loop μ-loop
-sub-turns c = search needs
+add-reads : tie.Need-add-reads Inv-loop μ-loop
+add-reads c = search needs
 
 loop-less : tie.Need-loop-less Inv-loop μ-loop
 loop-less c = search needs
 
 loop-again : tie.Need-loop-again Inv-loop μ-loop
-loop-again c = goes-on _ (c .before .before .before .before .before .before .before .loop .inv) (c .before .before .before .turn .ensures)
+loop-again c =
+    let turn = c .before .before .before .turn .ensures in
+    (again _ (turn .0) (c .before .before .goes-on .ensures) (not-false _ (c .before .if1 .left)) (turn .1), omega arith)
 
 returns-2 : tie.Need-returns-2 Inv-loop μ-loop
-returns-2 c = search needs
+returns-2 c = (c .before .loop .inv .0, λ _. omega arith)
 
 pub read-all-spec : {M : Type 1} → statement M
 read-all-spec =
@@ -49,7 +55,7 @@ read-all-spec =
     turn-requires
     goes-on-requires
     returns
-    sub-turns
+    add-reads
     loop-less
     loop-again
     returns-2)

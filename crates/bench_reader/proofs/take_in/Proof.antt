@@ -1,11 +1,22 @@
 -- `bench_reader::take_in` meets its contract. Assumes nothing.
 use native.Mathlib.Omega.{arith}
-use mathlib.Core.Path.{sym}
-use lib.Seq.{length-take-le}
-use Rattle.bench_reader.proofs.Moves.{fed-reader, fed-text}
+use mathlib.Core.Path.{refl, sym, _∙_}
+use borrow.Author.Tests.{not-true, not-false}
+use lib.ListN.{length-take}
+use Rattle.stdio.specs.Marks.{Within}
+use Rattle.bench_reader.proofs.Moves.{goes-on, is-over, breaks-off}
 use borrow.Author.Needs.{needs}
 use Rattle.bench_reader.proofs.take_in.Statement.{statement}
 use Rattle.bench_reader.proofs.take_in.Tie as tie
+
+add-made : tie.Need-add-made
+add-made c = search needs
+
+slice-aggregate-feed : tie.Need-slice-aggregate-feed
+unfolding Within
+slice-aggregate-feed c =
+    let start = c .before .before in
+    omega (arith, length-take (start .args .count) (start .args .chunk .now), start .pre .1 .1 .0 .1)
 
 feed-requires : tie.Need-feed-requires
 feed-requires c κs = search needs
@@ -13,22 +24,14 @@ feed-requires c κs = search needs
 bytes-in-requires : tie.Need-bytes-in-requires
 bytes-in-requires c κs = search needs
 
-slice-aggregate-emit : tie.Need-slice-aggregate-emit
-slice-aggregate-emit c =
-    let fed = c .before .before .before .before .before .feed .ensures in
-    sym (length-take-le _ _ (omega (arith, fed .1 .1, c .before .before .before .bytes-in .ensures)))
+slice-aggregate-write-text : tie.Need-slice-aggregate-write-text
+slice-aggregate-write-text c =
+    let text = c .before .before .before in
+    let feed = text .before .before .feed in
+    omega (arith, length-take (text .bytes-in .result) (feed .last .1 .1 .0), feed .ensures .1 .1, text .bytes-in .ensures)
 
-emit-requires : tie.Need-emit-requires
-emit-requires c κs =
-    let feed = c .before .before .before .before .before in
-    let start = feed .before .before .before in
-    (start .pre .0, fed-text _ _ _ (omega arith) (feed .feed .ensures .0) (feed .feed .ensures .1 .0) (feed .feed .ensures .1 .1) (c .before .before .before .bytes-in .ensures))
-
-returns : tie.Need-returns
-returns c =
-    let feed = c .before .before .before .before .before .before .before in
-    let args = feed .before .before .before .args in
-    fed-reader (args .reader) (args .chunk .now) (args .out .now) (omega arith) (feed .feed .ensures .0)
+write-text-requires : tie.Need-write-text-requires
+write-text-requires c κs = search needs
 
 slice-aggregate-complain : tie.Need-slice-aggregate-complain
 slice-aggregate-complain c = search needs
@@ -36,21 +39,52 @@ slice-aggregate-complain c = search needs
 complain-requires : tie.Need-complain-requires
 complain-requires c κs = search needs
 
+returns : tie.Need-returns
+returns c =
+    let wrote = c .before .before .before in
+    let text = wrote .before .before .before .before in
+    let feed = text .before .before in
+    let start = feed .before .before .before .before in
+    let pre = start .pre in
+    let fed = feed .feed .ensures in
+    (refl, breaks-off _ _ (pre .1 .0) (pre .1 .1 .1) _ (omega arith) (fed .0) (fed .1 .0) (fed .1 .1) (text .bytes-in .ensures) (wrote .write-text .ensures) (not-true _ (c .before .before .if1 .taken)))
+
+is-over-requires : tie.Need-is-over-requires
+is-over-requires c κs = search needs
+
 returns-2 : tie.Need-returns-2
 returns-2 c =
-    let feed = c .before .before .before .before .before .before .before .before .before in
-    let args = feed .before .before .before .args in
-    fed-reader (args .reader) (args .chunk .now) (args .out .now) (omega arith) (feed .feed .ensures .0)
+    let wrote = c .before .before .before in
+    let text = wrote .before .before .before .before in
+    let feed = text .before .before in
+    let start = feed .before .before .before .before in
+    let pre = start .pre in
+    let fed = feed .feed .ensures in
+    (refl, is-over _ _ (pre .1 .0) (pre .1 .1 .1) _ (omega arith) (fed .0) (fed .1 .0) (fed .1 .1) (text .bytes-in .ensures) (wrote .write-text .ensures) (not-false _ (c .before .before .if1 .left)) (sym (c .before .is-over .ensures) ∙ c .if2 .taken))
+
+returns-3 : tie.Need-returns-3
+returns-3 c =
+    let wrote = c .before .before .before in
+    let text = wrote .before .before .before .before in
+    let feed = text .before .before in
+    let start = feed .before .before .before .before in
+    let pre = start .pre in
+    let fed = feed .feed .ensures in
+    (refl, goes-on _ _ (pre .1 .0) (pre .1 .1 .1) _ (omega arith) (fed .0) (fed .1 .0) (fed .1 .1) (text .bytes-in .ensures) (wrote .write-text .ensures) (not-false _ (c .before .before .if1 .left)) (sym (c .before .is-over .ensures) ∙ c .if2 .left))
 
 pub take-in-spec : {M : Type 1} → statement M
 take-in-spec =
     tie.close
     (tie.spec
+    add-made
+    slice-aggregate-feed
     feed-requires
     bytes-in-requires
-    slice-aggregate-emit
-    emit-requires
-    returns
+    slice-aggregate-write-text
+    write-text-requires
     slice-aggregate-complain
     complain-requires
-    returns-2)
+    returns
+    is-over-requires
+    returns-2
+    returns-3)

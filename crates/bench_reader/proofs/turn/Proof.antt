@@ -1,11 +1,31 @@
 -- `bench_reader::turn` meets its contract. Assumes nothing.
-use Rattle.bench_reader.proofs.Moves.{stays}
+use mathlib.Core.Path.{refl}
+use Rattle.bench_reader.proofs.Moves.{ends, fails}
 use borrow.Author.Needs.{needs}
 use Rattle.bench_reader.proofs.turn.Statement.{statement}
 use Rattle.bench_reader.proofs.turn.Tie as tie
 
-read-requires : tie.Need-read-requires
-read-requires c κs = search needs
+add-made : tie.Need-add-made
+add-made c = search needs
+
+read-chunk-requires : tie.Need-read-chunk-requires
+read-chunk-requires c κs = search needs
+
+enum-known-report : tie.Need-enum-known-report
+enum-known-report c = search needs
+
+take-in-requires : tie.Need-take-in-requires
+take-in-requires c κs =
+    let start = c .before .before .before .before .before .before .before in
+    let read = c .before .before .before .before .before .read-chunk .ensures in
+    let told = c .before .before .before .report .given .1 in
+    (start .pre .0, (start .pre .1, (rw told at (read .0), rw told at (read .1))))
+
+enum-told : tie.Need-enum-told
+enum-told c = search needs
+
+enum-told-2 : tie.Need-enum-told-2
+enum-told-2 c = search needs
 
 slice-aggregate-complain : tie.Need-slice-aggregate-complain
 slice-aggregate-complain c = search needs
@@ -14,33 +34,29 @@ complain-requires : tie.Need-complain-requires
 complain-requires c κs = search needs
 
 returns : tie.Need-returns
-returns c = stays _ _
+returns c = search needs
 
 returns-2 : tie.Need-returns-2
-returns-2 c = stays _ _
-
-count-requires : tie.Need-count-requires
-count-requires c κs = search needs
-
-slice-aggregate-take-in : tie.Need-slice-aggregate-take-in
-slice-aggregate-take-in c = search needs
-
-take-in-requires : tie.Need-take-in-requires
-take-in-requires c κs = search needs
+returns-2 c =
+    (refl, ends _ (c .before .before .before .before .pre .1) (c .before .before .read-chunk .ensures .1) (c .enum-told .given .1))
 
 returns-3 : tie.Need-returns-3
-returns-3 c = (c .before .before .before .count .result, c .take-in .ensures)
+returns-3 c =
+    let read = c .before .before .before .before in
+    (refl, fails _ (read .before .before .pre .1) (read .read-chunk .ensures .1) (c .before .before .enum-told2 .given .1))
 
 pub turn-spec : {M : Type 1} → statement M
 turn-spec =
     tie.close
     (tie.spec
-    read-requires
+    add-made
+    read-chunk-requires
+    enum-known-report
+    take-in-requires
+    enum-told
+    enum-told-2
     slice-aggregate-complain
     complain-requires
     returns
     returns-2
-    count-requires
-    slice-aggregate-take-in
-    take-in-requires
     returns-3)

@@ -1,37 +1,151 @@
 -- `bench_text::parse_line` meets its contract. Assumes nothing.
-use mathlib.Core.Path.{sym, _∙_}
+use Prim.Native.Nat.{ℕ, _≤_}
+use mathlib.Core.Bool.{true}
+use mathlib.Core.List.{List}
+use mathlib.Core.Path.{_≡_, sym, _∙_}
+use lib.ListN.{length}
+use lib.Seq.{length-take-le}
 use borrow.Author.Needs.{needs}
-use Rattle.bench_text.proofs.Lines.{line-long, other-fields, tabs-of, with-number}
+use borrow.Author.Tests.{not-true, not-false}
+use Rattle.bench_text.specs.Rules.{lineMax, silenceMax, countMax, silenceField, countField, hasFields}
+use Rattle.bench_text.proofs.LineLaws.{Number, with-number, no-number, a-number, other-count, by-word, too-long, no-fields, no-silence, no-count, no-samples, good-line}
 use Rattle.bench_text.proofs.parse_line.Statement.{statement}
 use Rattle.bench_text.proofs.parse_line.Tie as tie
 
+-- ---- what the tests say of the line
+-- there are four fields, and the first was compared
+module _ (c : tie.After-is) where
+  abbrev line : List ℕ
+  line = c .before .before .before .before .before .before .before .args .line .now
+
+  short : length line ≤ lineMax
+  short = c .before .before .before .before .before .if1 .left
+
+  compared : hasFields line ≡ c .is .result
+  compared = by-word _ (c .before .before .before .before .count .ensures) (c .before .before .before .if2 .left) (c .before .before .field .ensures) (c .is .ensures)
+
+fields : (c : tie.Else3) → hasFields (line (c .before)) ≡ true
+fields c = compared (c .before) ∙ not-false _ (c .if3 .left)
+
+-- the silence is a number
+silence : (c : tie.After-known-told) → Number silenceMax (silenceField (line (c .before .before .before .before .before .before))) (c .before .silence .given .0 .0)
+silence c = a-number silenceMax (c .before .before .before .before .field2 .ensures) (c .before .before .before .read-byte .ensures) (c .before .silence .given .1)
+
+-- and so is the count
+count : (c : tie.After-known-told2)
+    → Number countMax (countField (line (c .before .before .before .before .before .before .before .before .before .before .before))) (c .before .count2 .given .0 .0)
+count c = a-number countMax (c .before .before .before .before .field3 .ensures) (c .before .before .before .read-byte2 .ensures) (c .before .count2 .given .1)
+
+-- ---- what the borrow checker leaves
 refused-requires : tie.Need-refused-requires
 refused-requires c κs = search needs
 
 returns : tie.Need-returns
-returns c = with-number _ _ (c .refused .ensures ∙ sym (line-long _ (c .before .if1 .taken)))
+returns c = with-number _ (c .refused .ensures ∙ too-long _ (c .before .if1 .taken))
 
-find-cuts-requires : tie.Need-find-cuts-requires
-find-cuts-requires c κs = search needs
-
-enum-known-cuts : tie.Need-enum-known-cuts
-enum-known-cuts c = search needs
-
-enum-told : tie.Need-enum-told
-enum-told c = search needs
+count-requires : tie.Need-count-requires
+count-requires c κs = search needs
 
 refused-requires-2 : tie.Need-refused-requires-2
 refused-requires-2 c κs = search needs
 
 returns-2 : tie.Need-returns-2
 returns-2 c =
-    with-number _ _ (c .refused2 .ensures ∙ sym (other-fields _ (c .before .before .before .before .if1 .left) _ (c .before .before .before .find-cuts .ensures) (c .before .enum-told .given .1)))
+    with-number _ (c .refused2 .ensures ∙ no-fields _ (c .before .before .before .if1 .left) (other-count _ (c .before .before .count .ensures) (c .before .if2 .taken)))
 
-parse-fields-requires : tie.Need-parse-fields-requires
-parse-fields-requires c κs = (c .before .before .before .before .if1 .left, tabs-of _ _ (c .before .before .before .find-cuts .ensures) (c .before .cuts .given .1))
+field-requires : tie.Need-field-requires
+field-requires c κs = search needs
+
+slice-aggregate-is : tie.Need-slice-aggregate-is
+slice-aggregate-is c = search needs
+
+is-requires : tie.Need-is-requires
+is-requires c κs = search needs
+
+refused-requires-3 : tie.Need-refused-requires-3
+refused-requires-3 c κs = search needs
 
 returns-3 : tie.Need-returns-3
-returns-3 c = with-number _ _ (c .parse-fields .ensures)
+returns-3 c =
+    let at = c .before .before in
+    with-number _ (c .refused3 .ensures ∙ no-fields _ (short at) (compared at ∙ not-true _ (c .before .if3 .taken)))
+
+field-requires-2 : tie.Need-field-requires-2
+field-requires-2 c κs = search needs
+
+read-byte-requires : tie.Need-read-byte-requires
+read-byte-requires c κs = search needs
+
+enum-known-silence : tie.Need-enum-known-silence
+enum-known-silence c = search needs
+
+enum-told : tie.Need-enum-told
+enum-told c = search needs
+
+refused-requires-4 : tie.Need-refused-requires-4
+refused-requires-4 c κs = search needs
+
+returns-4 : tie.Need-returns-4
+returns-4 c =
+    let at = c .before .before .before .before .before in
+    let bad = no-number silenceMax (c .before .before .before .before .field2 .ensures) (c .before .before .before .read-byte .ensures) (c .before .enum-told .given .1) in
+    with-number _ (c .refused4 .ensures ∙ no-silence _ (short (at .before)) (fields at) bad)
+
+field-requires-3 : tie.Need-field-requires-3
+field-requires-3 c κs = search needs
+
+read-byte-requires-2 : tie.Need-read-byte-requires-2
+read-byte-requires-2 c κs = search needs
+
+enum-known-count : tie.Need-enum-known-count
+enum-known-count c = search needs
+
+enum-told-2 : tie.Need-enum-told-2
+enum-told-2 c = search needs
+
+refused-requires-5 : tie.Need-refused-requires-5
+refused-requires-5 c κs = search needs
+
+returns-5 : tie.Need-returns-5
+returns-5 c =
+    let at = c .before .before .before .before .before .before .before .before .before .before in
+    let bad = no-number countMax (c .before .before .before .before .field3 .ensures) (c .before .before .before .read-byte2 .ensures) (c .before .enum-told2 .given .1) in
+    with-number _ (c .refused5 .ensures ∙ no-count _ (short (at .before)) (fields at) bad)
+
+cast-n : tie.Need-cast-n
+cast-n c = search needs
+
+field-requires-4 : tie.Need-field-requires-4
+field-requires-4 c κs = search needs
+
+array-borrow-prefix-samples : tie.Need-array-borrow-prefix-samples
+array-borrow-prefix-samples c = count (c .before) .2
+
+slice-aggregate-read-hex : tie.Need-slice-aggregate-read-hex
+slice-aggregate-read-hex c = sym (length-take-le _ _ (count (c .before .before) .2))
+
+read-hex-requires : tie.Need-read-hex-requires
+read-hex-requires c κs = search needs
+
+refused-requires-6 : tie.Need-refused-requires-6
+refused-requires-6 c κs = search needs
+
+returns-6 : tie.Need-returns-6
+returns-6 c =
+    let counted = c .before .before .before .before .before .before in
+    let silent = counted .before .before .before .before .before in
+    let at = silent .before .before .before .before .before in
+    with-number _ (c .refused6 .ensures
+    ∙ no-samples _ (short (at .before)) (fields at) (silence silent) (count counted)
+    (c .before .before .before .before .before .field4 .ensures) (c .before .before .before .read-hex .ensures .0) (c .before .if4 .taken))
+
+returns-7 : tie.Need-returns-7
+returns-7 c =
+    let counted = c .before .before .before .before .before in
+    let silent = counted .before .before .before .before .before in
+    let at = silent .before .before .before .before .before in
+    let read = c .before .before .read-hex .ensures in
+    with-number _ (good-line _ (short (at .before)) (fields at) (silence silent) (count counted) (c .before .before .before .before .field4 .ensures) (read .0) (c .if4 .left) (read .1))
 
 pub parse-line-spec : {M : Type 1} → statement M
 parse-line-spec =
@@ -39,10 +153,31 @@ parse-line-spec =
     (tie.spec
     refused-requires
     returns
-    find-cuts-requires
-    enum-known-cuts
-    enum-told
+    count-requires
     refused-requires-2
     returns-2
-    parse-fields-requires
-    returns-3)
+    field-requires
+    slice-aggregate-is
+    is-requires
+    refused-requires-3
+    returns-3
+    field-requires-2
+    read-byte-requires
+    enum-known-silence
+    enum-told
+    refused-requires-4
+    returns-4
+    field-requires-3
+    read-byte-requires-2
+    enum-known-count
+    enum-told-2
+    refused-requires-5
+    returns-5
+    cast-n
+    field-requires-4
+    array-borrow-prefix-samples
+    slice-aggregate-read-hex
+    read-hex-requires
+    refused-requires-6
+    returns-6
+    returns-7)

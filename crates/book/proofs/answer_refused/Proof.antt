@@ -22,5 +22,4 @@ returns c =
     refused-line _ _ _ _ _ (c .before .before .before .before .before .before .before .pre .1) _ _ (put .0) (put .1 .0) (put .1 .1) (c .one-more .ensures)
 
 pub answer-refused-spec : {M : Type 1} → statement M
-answer-refused-spec =
-    tie.close (tie.spec add-lines put-bad-requires one-more-requires same-length returns)
+answer-refused-spec = tie.close (tie.spec add-lines put-bad-requires one-more-requires same-length returns)

@@ -16,14 +16,14 @@ slice-aggregate-parse-line c = sym (length-take-le _ _ (omega (arith, c .before 
 parse-line-requires : tie.Need-parse-line-requires
 parse-line-requires c κs = search needs
 
-enum-known-answer : tie.Need-enum-known-answer
-enum-known-answer c = search needs
+enum-told : tie.Need-enum-told
+enum-told c = search needs
 
 answer-capture-requires : tie.Need-answer-capture-requires
 answer-capture-requires c κs = search needs
 
-enum-known-answer-2 : tie.Need-enum-known-answer-2
-enum-known-answer-2 c = search needs
+enum-known-answer : tie.Need-enum-known-answer
+enum-known-answer c = search needs
 
 answer-refused-requires : tie.Need-answer-refused-requires
 answer-refused-requires c κs = search needs
@@ -33,20 +33,18 @@ same-length c = search needs
 
 returns : tie.Need-returns
 returns c =
-    let answer = c .before .before .before .before .before .before in
-    let read = answer .before .before in
-    of-capture _ _ _ _ _ (read .before .before .shorter .ensures) (read .parse-line .ensures .0) _ _ _ _ _ _ (answer .answer .given .1)
-    (c .before .before .answer-capture .ensures)
+    let told = c .before .before .before .before .before in
+    let read = told .before .before in
+    of-capture _ _ _ _ _ (read .before .before .shorter .ensures) (read .parse-line .ensures .0) _ _ _ _ (told .enum-told .given .1) (c .before .before .answer-capture .ensures)
 
 same-length-2 : tie.Need-same-length-2
 same-length-2 c = search needs
 
 returns-2 : tie.Need-returns-2
 returns-2 c =
-    let answer = c .before .before .before .before .before in
-    let read = answer .before .before in
-    of-refused _ _ _ _ _ (read .before .before .shorter .ensures) (read .parse-line .ensures .0) _ _ _ _ _ (answer .answer2 .given .1)
-    (c .before .before .answer-refused .ensures)
+    let told = c .before .before .before .before .before in
+    let read = told .before .before in
+    of-refused _ _ _ _ _ (read .before .before .shorter .ensures) (read .parse-line .ensures .0) _ _ _ _ _ (told .answer .given .1) (c .before .before .answer-refused .ensures)
 
 pub end-line-spec : {M : Type 1} → statement M
 end-line-spec =
@@ -55,9 +53,9 @@ end-line-spec =
     shorter-requires
     slice-aggregate-parse-line
     parse-line-requires
-    enum-known-answer
+    enum-told
     answer-capture-requires
-    enum-known-answer-2
+    enum-known-answer
     answer-refused-requires
     same-length
     returns

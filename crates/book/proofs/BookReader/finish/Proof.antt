@@ -2,8 +2,7 @@
 use native.Mathlib.Omega.{arith}
 use mathlib.Core.Path.{sym, _∙_}
 use borrow.Author.Needs.{needs}
-use Rattle.book.proofs.Finishing.{room-behind, too-short, when-full, when-none, when-some}
-use Rattle.book.proofs.Steps.{not-full}
+use Rattle.book.proofs.Finishing.{not-full, too-short, when-full, when-none, when-some}
 use Rattle.book.proofs.BookReader.finish.Statement.{statement}
 use Rattle.book.proofs.BookReader.finish.Tie as tie
 
@@ -23,7 +22,7 @@ returns-2 : tie.Need-returns-2
 returns-2 c =
     let put = c .before .before .put-end .ensures in
     let full = c .before .before .before .before in
-    when-full _ _ (full .before .before .if1 .left) _ _ (sym (full .before .is-full .ensures) ∙ full .if2 .taken) (put .0) (put .1 .0) (put .1 .1)
+    when-full _ _ (full .before .before .if1 .left) _ _ (put .0) (put .1 .0) (put .1 .1) (sym (full .before .is-full .ensures) ∙ full .if2 .taken)
 
 put-end-requires-2 : tie.Need-put-end-requires-2
 put-end-requires-2 c κs = search needs
@@ -35,8 +34,7 @@ returns-3 : tie.Need-returns-3
 returns-3 c =
     let put = c .before .before .put-end2 .ensures in
     let none = c .before .before .before .before in
-    let full = none .before .before in
-    when-none _ _ (full .before .before .if1 .left) _ _ (sym (full .before .is-full .ensures) ∙ full .if2 .left) (none .if3 .taken) (put .0) (put .1 .0) (put .1 .1)
+    when-none _ _ (none .before .before .before .before .if1 .left) _ _ (put .0) (put .1 .0) (put .1 .1) (none .if3 .taken)
 
 end-line-requires : tie.Need-end-line-requires
 end-line-requires c κs =
@@ -44,10 +42,7 @@ end-line-requires c κs =
     (not-full _ (sym (full .before .is-full .ensures) ∙ full .if2 .left), omega (arith, full .before .before .if1 .left))
 
 put-end-requires-3 : tie.Need-put-end-requires-3
-put-end-requires-3 c κs =
-    let line = c .before .before .before in
-    let full = line .before .before .before .before .before .before in
-    room-behind (full .before .before .if1 .left) (line .end-line .ensures)
+put-end-requires-3 c κs = search needs
 
 same-length-3 : tie.Need-same-length-3
 same-length-3 c = search needs

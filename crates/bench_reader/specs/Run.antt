@@ -1,0 +1,75 @@
+-- What the program promises. A mark of `stdio`, `Came` or `Went`, comes from a call and no other way. Assumes nothing.
+use Prim.Native.Nat.{ℕ, suc}
+use mathlib.Core.Bool.{Bool, true, false}
+use mathlib.Core.List.{List, [], _∷_, _++_}
+use mathlib.Core.Path.{_≡_}
+use lib.ListN.{take}
+use Rattle.stdio.specs.declared.Report.the-variants.{Bytes, End as input-ended, Failed as read-failed}
+use Rattle.stdio.specs.Marks.{Came, Went}
+use Rattle.book.specs.declared.BookReader.{BookReader}
+use Rattle.book.specs.Reader.{newReader, isOver, after, said, lastWords}
+use Rattle.bench_reader.specs.declared.Next.{Next}
+use Rattle.bench_reader.specs.declared.Next.the-variants.{More, Over, End, Failed}
+
+-- Reads one after the other, from a new reader on: how many there were, the reader that they led to, and how the run goes on.
+pub data Ran : ℕ → BookReader → Next → Type 0 where
+  begun : Ran 0 newReader More
+  -- The read brought bytes. They were fed, all of them and no other, and what the reader said of them was written.
+  fed : (reads : ℕ) (r : BookReader) (buffer : List ℕ) (count : ℕ)
+      → Ran reads r More → Came reads buffer (Bytes count) → Went (said r (take count buffer)) true
+      → isOver (after r (take count buffer)) ≡ false
+      → Ran (suc reads) (after r (take count buffer)) More
+  -- The same, and a byte came after the last line that a book may have: no read follows.
+  full : (reads : ℕ) (r : BookReader) (buffer : List ℕ) (count : ℕ)
+      → Ran reads r More → Came reads buffer (Bytes count) → Went (said r (take count buffer)) true
+      → isOver (after r (take count buffer)) ≡ true
+      → Ran (suc reads) (after r (take count buffer)) Over
+  -- The read told the end of the input.
+  ended : (reads : ℕ) (r : BookReader) (buffer : List ℕ) → Ran reads r More → Came reads buffer input-ended → Ran (suc reads) r End
+  -- The read failed.
+  unread : (reads : ℕ) (r : BookReader) (buffer : List ℕ) → Ran reads r More → Came reads buffer read-failed → Ran (suc reads) r Failed
+  -- The write failed.
+  unwritten : (reads : ℕ) (r : BookReader) (buffer : List ℕ) (count : ℕ)
+      → Ran reads r More → Came reads buffer (Bytes count) → Went (said r (take count buffer)) false
+      → Ran (suc reads) (after r (take count buffer)) Failed
+
+unfoldable pub isMore : Next → Bool
+isMore More = true
+isMore Over = false
+isMore End = false
+isMore Failed = false
+
+-- A run that would go on is broken off after 2 ^ 64 - 1 reads, and only then.
+abbrev pub readsMax : ℕ
+readsMax = 18446744073709551615
+
+abbrev pub Stops : ℕ → Next → Type 0
+Stops reads next = isMore next ≡ true → reads ≡ readsMax
+
+-- what the whole program does
+pub data Told : Type 0 where
+  -- The input was read to its end, and the last words of the reader that it led to were written, or the write of them failed.
+  to-the-end : (reads : ℕ) (r : BookReader) (done : Bool) → Ran reads r End → Went (lastWords r) done → Told
+  to-the-last-line : (reads : ℕ) (r : BookReader) (done : Bool) → Ran reads r Over → Went (lastWords r) done → Told
+  -- A read or a write failed.
+  broken-off : (reads : ℕ) (r : BookReader) → Ran reads r Failed → Told
+  endless : (r : BookReader) → Ran readsMax r More → Told
+
+-- ---- what came and what was written
+-- the chunks that a run was fed, one after the other
+unfoldable pub cameIn : {reads : ℕ} {r : BookReader} {next : Next} → Ran reads r next → List (List ℕ)
+cameIn begun = []
+cameIn (fed reads r buffer count run came went more) = cameIn run ++ (take count buffer ∷ [])
+cameIn (full reads r buffer count run came went over) = cameIn run ++ (take count buffer ∷ [])
+cameIn (ended reads r buffer run came) = cameIn run
+cameIn (unread reads r buffer run came) = cameIn run
+cameIn (unwritten reads r buffer count run came went) = cameIn run ++ (take count buffer ∷ [])
+
+-- and all that it wrote
+unfoldable pub wroteIn : {reads : ℕ} {r : BookReader} {next : Next} → Ran reads r next → List ℕ
+wroteIn begun = []
+wroteIn (fed reads r buffer count run came went more) = wroteIn run ++ said r (take count buffer)
+wroteIn (full reads r buffer count run came went over) = wroteIn run ++ said r (take count buffer)
+wroteIn (ended reads r buffer run came) = wroteIn run
+wroteIn (unread reads r buffer run came) = wroteIn run
+wroteIn (unwritten reads r buffer count run came went) = wroteIn run

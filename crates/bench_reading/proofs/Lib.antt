@@ -1,0 +1,2 @@
+mod Handed
+pub mod Sole

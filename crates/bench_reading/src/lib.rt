@@ -1,0 +1,71 @@
+// What the bench reads of a capture: its decode, its longest low run and the steps of its search, made once and passed on as one value.
+ghost use mathlib.Core.Path.{_≡_};
+ghost use Rattle.bench_reading.specs.Reading.{readingOf, isDecoded};
+ghost use Rattle.bench_reading.specs.Code.{heldEvent};
+use bench_text::Capture;
+use fsm::RxCompletedEvent;
+use lengths::SNIFFED_BIT_LENGTHS;
+use rx_decode::SniffedDecode;
+use rx_decode::SniffedFrame;
+use search::BestPhaseSearch;
+use search::Found;
+use search::IsrDecode;
+use window::SampleWindow;
+
+pub struct Reading {
+    pub decode: SniffedDecode,
+    pub low_run: u16,
+    pub steps: u8,
+}
+
+// The search is made here, for its steps, and the event is handed what it found: no reading searches again.
+pub fn read_capture(capture: Capture) -> Reading
+    ensures { λ r. ⌜ r ≡ readingOf capture ⌝ }
+{
+    let window = SampleWindow::of_capture(&capture.samples, capture.count as u16);
+    let answer = BestPhaseSearch::new(SNIFFED_BIT_LENGTHS).run(window);
+    let found = answer.found;
+    let event = event_with(capture, found);
+    let decode = rx_decode::decode_sniffed_with_phase(event);
+    let low_run = rx_decode::longest_dominant_run_ticks(event);
+    Reading {
+        decode,
+        low_run,
+        steps: answer.steps,
+    }
+}
+
+// The event of a capture, with a search that is finished. A field that is an enum can't be set, so the event is written anew.
+fn event_with(capture: Capture, found: Found) -> RxCompletedEvent
+    ensures { λ r. ⌜ r ≡ heldEvent capture found ⌝ }
+{
+    let new = RxCompletedEvent::new();
+    let samples = capture.samples;
+    let count = capture.count as u16;
+    RxCompletedEvent {
+        samples,
+        sample_count: count,
+        pre_idle_ticks: capture.silence,
+        rx_epoch: new.rx_epoch,
+        rx_tick: new.rx_tick,
+        max_sample_gap_us: new.max_sample_gap_us,
+        timing_degraded: new.timing_degraded,
+        sniff_seq: new.sniff_seq,
+        isr_decode: IsrDecode::Decoded(found),
+    }
+}
+
+// Decoded are frames of 8, 16 and 24 bits. Another length is none of them.
+pub fn is_decoded(reading: Reading) -> bool
+    ensures { λ r. ⌜ r ≡ isDecoded reading ⌝ }
+{
+    let decode = reading.decode;
+    let frame = decode.frame;
+    match frame {
+        SniffedFrame::Forward16(_) => true,
+        SniffedFrame::Backward8(_) => true,
+        SniffedFrame::Forward24(_, _, _) => true,
+        SniffedFrame::UnsupportedLength(_) => false,
+        SniffedFrame::DecodeFailed => false,
+    }
+}
