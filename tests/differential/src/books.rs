@@ -81,6 +81,21 @@ impl Book {
     }
 }
 
+/// The stored book that is longer than several reads: mixed lines of text. A byte that is no text stands as a question mark, so that the book can be
+/// looked at and compared like any other file.
+pub fn long_book() -> Vec<u8> {
+    let mut text = Book::new(LONG_SEED, Kind::Mixed, LONG_LINES).text();
+    for byte in &mut text {
+        if !matches!(*byte, b'\t' | b'\n' | b' '..=b'~') {
+            *byte = b'?';
+        }
+    }
+    text
+}
+
+const LONG_SEED: u64 = 62386;
+const LONG_LINES: usize = 1_500;
+
 /// A good line that tells a capture. Samples past the count are not told.
 pub fn push_record(out: &mut Vec<u8>, silence: u8, capture: &Capture) {
     let count = SAMPLES.min(usize::from(capture.count));

@@ -68,6 +68,7 @@ const USAGE: &str = "usage:
   differential edges                                  writes the book of edge lines
   differential escaped-edges                          the same as text, for printf's %b
   differential sample                                 writes a gateway's day on the bench
+  differential long                                   writes the book that is longer than several reads
   differential books --reader PROGRAM --lines N --seed S [--cuts K] [--batch B]
                                                       books of B lines, N in all; the edge book at K places
   differential uneven --frames N [--seed S] [--reader PROGRAM]
@@ -154,6 +155,10 @@ fn run(words: &[String]) -> Result<bool, String> {
         "sample" => {
             options.allow(&[])?;
             quiet_on_closed_pipe(io::stdout().lock().write_all(&day::book()))
+        }
+        "long" => {
+            options.allow(&[])?;
+            quiet_on_closed_pipe(io::stdout().lock().write_all(&books::long_book()))
         }
         "books" => {
             options.allow(&["--reader", "--lines", "--seed", "--cuts", "--batch"])?;
