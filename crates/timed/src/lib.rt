@@ -1,4 +1,4 @@
-// The decoder for a foreign loop that times it (bench/): each call answers one number, so that it can be compared with the Rust's.
+// The decoder for a foreign loop that times it (timing/): each call answers one number, so that it can be compared with the Rust's.
 ghost use mathlib.Core.Path.{_≡_};
 ghost use Rattle.window.specs.Window.{windowOf};
 ghost use Rattle.window.specs.Phase.{phaseOf};

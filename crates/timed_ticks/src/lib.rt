@@ -1,4 +1,4 @@
-// The station for a clock outside (bench/): ticks over the same levels again and again, and one number at the end, so that it can be compared with
+// The station for a clock outside (timing/): ticks over the same levels again and again, and one number at the end, so that it can be compared with
 // the Rust's.
 ghost use mathlib.Core.Path.{_≡_};
 ghost use Prim.Native.Nat.{_+_, _≤_, _<_};
@@ -126,7 +126,7 @@ pub extern "C" fn timed_ticks(levels: &[u8; LEVELS], passes: u32, sends: bool) -
     sum
 }
 
-// The level that a new station drives after one tick, by the form that firmware calls. It holds `host::tick` in the library, where bench/native
+// The level that a new station drives after one tick, by the form that firmware calls. It holds `host::tick` in the library, where timing/native
 // finds it for a clock that calls it one tick at a time.
 #[no_mangle]
 pub extern "C" fn first_level(bus_is_high: bool) -> bool

@@ -50,7 +50,7 @@ const FRAME: HalfBitBuffer = HalfBitBuffer {
 /// The ticks from a start with that frame to Idle.
 const SENDING_TICKS: u32 = 217;
 
-// The proved library `timed_ticks`, as bench/native gives it out. A struct passes by a pointer, and so does the place for one that is returned.
+// The proved library `timed_ticks`, as timing/native gives it out. A struct passes by a pointer, and so does the place for one that is returned.
 extern "C" {
     fn timed_ticks(levels: &[u8; LEVELS], passes: u32, sends: bool) -> u64;
     fn station_new(made: &mut Room);

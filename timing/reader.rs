@@ -231,7 +231,7 @@ fn run(words: &[String]) -> io::Result<()> {
 fn main() {
     let words: Vec<String> = std::env::args().skip(1).collect();
     if let Err(error) = run(&words) {
-        eprintln!("bench: {error}");
+        eprintln!("timing: {error}");
         exit(1);
     }
 }
