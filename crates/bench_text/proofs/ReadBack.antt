@@ -18,8 +18,8 @@ use Rattle.text.specs.Decimals.{isDigit, valueOf, isUpTo, decimalIn, decimalOf}
 use Rattle.text.specs.Hex.{digitValue, allHex, isHex, hexDigit, hexOf, hexesOf}
 use Rattle.text.specs.ReadBack.{Without, AllBytes}
 use Rattle.text.proofs.FieldLaws.{fields-back}
-use Rattle.text.proofs.DecimalLaws.{both-true, length-decimal, decimals-back}
-use Rattle.text.proofs.HexLaws.{length-hexes, hex-back}
+use Rattle.text.proofs.DecimalLaws.{both-true, length-decimal, decimal-back}
+use Rattle.text.proofs.HexLaws.{length-hexes, hexes-hex, hexes-bytes}
 use Rattle.bench_text.specs.Rules.{lineMax, silenceMax, countMax, isShort, hasFields, hasNumbers, hasSamples, judgedBy}
 use Rattle.bench_text.specs.Line.{captureWith, goodLine, lineAs, lineOf}
 use Rattle.bench_text.specs.ReadBack.{lineFor, ReadBack}
@@ -38,7 +38,7 @@ hex-without (x ∷ f) e (suc i) h = hex-without f (both-true (ltb (digitValue x)
 -- ---- a number of one byte
 module _ (n : ℕ) (h : n < 256) where
   value : valueOf (decimalOf n) ≡ n
-  value = decimals-back n (omega arith) .1
+  value = decimal-back n (omega arith) .1
 
   decimal-short : length (decimalOf n) ≤ 3
   decimal-short = length-decimal 10 2 n (omega arith)
@@ -50,7 +50,7 @@ module _ (n : ℕ) (h : n < 256) where
 
   up-to : (most : ℕ) → n ≤ most → isUpTo most (decimalOf n) ≡ true
   unfolding isUpTo
-  up-to most l = rw (decimals-back n (omega arith) .0, value, le-leb n most l)
+  up-to most l = rw (decimal-back n (omega arith) .0, value, le-leb n most l)
 
 -- ---- the line
 module _ (silence : ℕ) (samples : List ℕ) (low : silence ≤ silenceMax) (few : length samples ≤ countMax) (bytes : AllBytes samples) where
@@ -74,7 +74,7 @@ module _ (silence : ℕ) (samples : List ℕ) (low : silence ≤ silenceMax) (fe
   no-tabs zero (suc i) h = absurd (omega (arith, h))
   no-tabs (suc zero) j h = hex-without (decimalOf silence) (decimal-hex silence low-byte) j h
   no-tabs (suc (suc zero)) j h = hex-without (decimalOf count) (decimal-hex count few-byte) j h
-  no-tabs (suc (suc (suc zero))) j h = hex-without (hexesOf samples) (hex-back samples bytes .0) j h
+  no-tabs (suc (suc (suc zero))) j h = hex-without (hexesOf samples) (hexes-hex samples bytes) j h
   no-tabs (suc (suc (suc (suc i)))) j h = absurd (omega (arith, h))
 
   four : fieldsAt tab line ≡ parts
@@ -104,7 +104,7 @@ module _ (silence : ℕ) (samples : List ℕ) (low : silence ≤ silenceMax) (fe
   good-samples : hasSamples line ≡ true
   unfolding hasSamples isHex
   good-samples =
-      rw (four, value count few-byte, eq-eqb (length (hexesOf samples)) (2 * count) (length-hexes samples), hex-back samples bytes .0)
+      rw (four, value count few-byte, eq-eqb (length (hexesOf samples)) (2 * count) (length-hexes samples), hexes-hex samples bytes)
 
   back : lineOf line ≡ goodLine (captureWith silence count samples)
   unfolding judgedBy lineAs
@@ -117,7 +117,7 @@ module _ (silence : ℕ) (samples : List ℕ) (low : silence ≤ silenceMax) (fe
         four,
         value silence low-byte,
         value count few-byte,
-        hex-back samples bytes .1,
+        hexes-bytes samples bytes,
       )
 
 pub read-back : ReadBack

@@ -311,5 +311,11 @@ decimal-is n h = go (decLt n 10)
         rw (decimal-more n h big)
         (decimal-behind (digitOf (n % 10)) (decimalOf (n / 10)) (digit-is (n % 10) (omega arith)) (decimal-high (n / 10) (omega arith) (omega arith)))
 
+pub decimal-back : (n : ℕ) → n < 2 ^ 32 → (isDecimal (decimalOf n) ≡ true) × (valueOf (decimalOf n) ≡ n)
+decimal-back n h = (decimal-is n (omega arith), decimal-value n (omega arith))
+
 pub decimals-back : DecimalsBack
-decimals-back n h = (decimal-is n (omega arith), decimal-value n (omega arith))
+decimals-back most n low h =
+    let was = decimal-back n h in
+    let read = number-good most (decimalOf n) (was .0) n (sym (was .1)) low in
+    (sym read, sym (byte-good most (decimalOf n) read n refl))

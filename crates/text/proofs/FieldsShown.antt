@@ -1,11 +1,16 @@
--- Fields, words and writing at work on short texts, by computing. Assumes nothing.
+-- Fields, words and writing at work on short texts, by computing; and fields read back there, by the law. Assumes nothing.
+use Prim.Native.Nat.{ℕ, zero, suc}
+use native.Mathlib.Omega.{arith}
 use mathlib.Core.List.{[], _∷_}
 use mathlib.Core.Path.{_≡_, refl}
+use lib.ListN.{getD}
 use Rattle.laws.specs.Pick.{pick}
 use Rattle.text.specs.Letters.{word, lf, space}
 use Rattle.text.specs.Fields.{grow, partedAt, fieldsAt, countAt, fieldAt, bytesBefore, joinedBy}
 use Rattle.text.specs.Words.{sameText, wordsOf, placeAmong}
 use Rattle.text.specs.Writing.{placeAfter, bufferAfter, placePast, bufferWith}
+use Rattle.text.specs.ReadBack.{Without}
+use Rattle.text.proofs.FieldLaws.{fields-back}
 
 -- ---- fields
 pub third : fieldAt space 2 (word "lpolicy 2 off") ≡ word "off"
@@ -37,6 +42,17 @@ no-mark = refl
 pub joined : joinedBy space (word "a" ∷ [] ∷ word "b" ∷ []) ≡ word "a  b"
 unfolding joinedBy
 joined = refl
+
+-- what the law of reading back asks for can be met
+no-space : (i : ℕ) → Without space (getD (word "a" ∷ word "b" ∷ []) i [])
+no-space zero zero h = refl
+no-space zero (suc j) h = absurd (omega (arith, h))
+no-space (suc zero) zero h = refl
+no-space (suc zero) (suc j) h = absurd (omega (arith, h))
+no-space (suc (suc i)) j h = absurd (omega (arith, h))
+
+pub two-fields-back : fieldsAt space (joinedBy space (word "a" ∷ word "b" ∷ [])) ≡ word "a" ∷ word "b" ∷ []
+two-fields-back = fields-back space (word "a") (word "b" ∷ []) no-space
 
 -- ---- words
 pub second-word : placeAmong (word "off") (wordsOf (word "auto off on")) ≡ 1

@@ -218,7 +218,9 @@ hexes-bytes (b ∷ s) h =
     rw (top-back b (h 0), low-back b (h 0), whole, hexes-bytes s (λ i. h (suc i)))
 
 pub hex-back : HexBack
-hex-back bytes h = (hexes-hex bytes h, hexes-bytes bytes h)
+hex-back bytes buffer h len =
+    let hex = sym (right-length (length buffer) (hexesOf bytes) (omega (arith, length-hexes bytes, len))) ∙ hexes-hex bytes h in
+    (hex, sym (is-filled (hexesOf bytes) buffer (sym hex) refl (sym (hexes-bytes bytes h)) .1))
 
 hex-behind : (digit : ℕ) (text : List ℕ) → digitValue digit < 16 → allHex text ≡ true → allHex (text ++ (digit ∷ [])) ≡ true
 unfolding allHex

@@ -1,4 +1,6 @@
--- Numbers and hex at work on short texts, by computing. Assumes nothing.
+-- Numbers and hex at work on short texts, by computing; and what is read back there, by the laws. Assumes nothing.
+use Prim.Native.Nat.{zero, suc}
+use native.Mathlib.Omega.{arith}
 use mathlib.Core.List.{[], _∷_}
 use mathlib.Core.Path.{_≡_, refl}
 use lib.IntN.{pos, negsuc}
@@ -10,6 +12,10 @@ use Rattle.text.specs.Letters.{word}
 use Rattle.text.specs.Decimals.{isDigit, allDigits, isDecimal, valueFrom, isUpTo, numberIn, decimalIn, decimalOf}
 use Rattle.text.specs.Signed.{belowZero, signedIn, signedOf}
 use Rattle.text.specs.Hex.{digitValue, hexDigit, allHex, bytesOf, isHex, filledBy, hexOf, hexesOf, hexValueFrom, hexNumberIn, hexDigitsOf}
+use Rattle.text.specs.ReadBack.{AllBytes}
+use Rattle.text.proofs.DecimalLaws.{decimals-back}
+use Rattle.text.proofs.SignedLaws.{signed-back}
+use Rattle.text.proofs.HexLaws.{hex-back, hex-numbers-back}
 
 -- ---- decimals
 pub highest : numberIn 64 (word "64") ≡ a-number 64
@@ -73,3 +79,21 @@ bytes-said = refl
 pub digits-said : hexDigitsOf 2 0x1AB ≡ word "ab"
 unfolding hexDigitsOf hexDigit pick
 digits-said = refl
+
+-- ---- what the laws of reading back ask for can be met
+pub number-back : numberIn 64 (decimalOf 64) ≡ a-number 64
+number-back = decimals-back 64 64 (omega arith) (omega arith) .0
+
+pub signed-number-back : signedIn (signedOf (negsuc 4)) ≡ a-signed (negsuc 4)
+signed-number-back = signed-back .1 4 (omega arith)
+
+two-bytes : AllBytes (0x0F ∷ 0xF0 ∷ [])
+two-bytes zero = omega arith
+two-bytes (suc zero) = omega arith
+two-bytes (suc (suc i)) = omega arith
+
+pub bytes-back : filledBy (hexesOf (0x0F ∷ 0xF0 ∷ [])) (1 ∷ 2 ∷ []) ≡ 0x0F ∷ 0xF0 ∷ []
+bytes-back = hex-back (0x0F ∷ 0xF0 ∷ []) (1 ∷ 2 ∷ []) two-bytes refl .1
+
+pub digits-back : hexNumberIn 2 (hexDigitsOf 2 0xAB) ≡ a-hex 0xAB
+digits-back = hex-numbers-back 2 0xAB (omega arith) (omega arith)

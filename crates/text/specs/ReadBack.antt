@@ -8,11 +8,13 @@ use lib.IntN.{ℤ, pos, negsuc}
 use lib.ListN.{length, getD}
 use Rattle.text.specs.Fields.{fieldsAt, joinedBy}
 use Rattle.text.specs.Words.{sameText}
-use Rattle.text.specs.Decimals.{isDecimal, valueOf, decimalOf}
+use Rattle.text.specs.Decimals.{numberIn, byteIn, decimalOf}
 use Rattle.text.specs.Signed.{signedIn, signedOf}
-use Rattle.text.specs.Hex.{allHex, bytesOf, hexesOf, hexNumberIn, hexDigitsOf}
+use Rattle.text.specs.Hex.{isHex, filledBy, hexesOf, hexNumberIn, hexDigitsOf}
+use Rattle.text.specs.declared.decimals.Number.the-variants.{Is as a-number}
+use Rattle.text.specs.declared.decimals.Byte.the-variants.{Is as a-byte}
 use Rattle.text.specs.declared.signed.Signed.the-variants.{Is as a-signed}
-use Rattle.text.specs.declared.hex.HexNumber.the-variants.{Is as a-number}
+use Rattle.text.specs.declared.hex.HexNumber.the-variants.{Is as a-hex}
 
 -- no byte of a text is the mark
 abbrev pub Without : ℕ → List ℕ → Type 0
@@ -28,9 +30,10 @@ FieldsBack =
 abbrev pub WordsBack : Type 0
 WordsBack = ((word : List ℕ) → sameText word word ≡ true) × ((field word : List ℕ) → sameText field word ≡ true → field ≡ word)
 
--- Of a number of 32 bits the digits are written, without leading zeros.
+-- A number of 32 bits is read back wherever the limit lets it in; so is a byte.
 abbrev pub DecimalsBack : Type 0
-DecimalsBack = (n : ℕ) → n < 2 ^ 32 → (isDecimal (decimalOf n) ≡ true) × (valueOf (decimalOf n) ≡ n)
+DecimalsBack =
+    (most n : ℕ) → n ≤ most → n < 2 ^ 32 → (numberIn most (decimalOf n) ≡ a-number n) × (byteIn most (decimalOf n) ≡ a-byte n)
 
 abbrev pub SignedBack : Type 0
 SignedBack =
@@ -41,8 +44,11 @@ SignedBack =
 abbrev pub AllBytes : List ℕ → Type 0
 AllBytes numbers = (i : ℕ) → getD numbers i 0 < 256
 
+-- into a buffer of as many bytes
 abbrev pub HexBack : Type 0
-HexBack = (bytes : List ℕ) → AllBytes bytes → (allHex (hexesOf bytes) ≡ true) × (bytesOf (hexesOf bytes) ≡ bytes)
+HexBack =
+    (bytes buffer : List ℕ) → AllBytes bytes → length buffer ≡ length bytes
+    → (isHex (length buffer) (hexesOf bytes) ≡ true) × (filledBy (hexesOf bytes) buffer ≡ bytes)
 
 abbrev pub HexNumbersBack : Type 0
-HexNumbersBack = (width number : ℕ) → width ≤ 16 → number < 16 ^ width → hexNumberIn width (hexDigitsOf width number) ≡ a-number number
+HexNumbersBack = (width number : ℕ) → width ≤ 16 → number < 16 ^ width → hexNumberIn width (hexDigitsOf width number) ≡ a-hex number
