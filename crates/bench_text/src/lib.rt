@@ -14,6 +14,11 @@ use window::DALI_RX_SAMPLE_BUF_LEN;
 // A line of more bytes is refused. The longest good one has 137.
 pub const LINE_MAX: usize = 140;
 
+// As long as the silence may be, and as many as the samples may be.
+const SILENCE_MAX: u8 = 255;
+
+const COUNT_MAX: u8 = DALI_RX_SAMPLE_BUF_LEN as u8;
+
 // Nobody calls this: its promise says what each public constant is.
 fn constants() -> PublicConstants
     ensures { λ r. ⌜ r ≡ publicConstants ⌝ }
@@ -75,10 +80,10 @@ pub fn parse_line(line: &[u8]) -> BookLine
     if !words::is(fields::field(line, b'\t', 0), b"C") {
         return refused(Refusal::NotFourFields);
     }
-    let Byte::Is(silence) = decimals::read_byte(fields::field(line, b'\t', 1), 255) else {
+    let Byte::Is(silence) = decimals::read_byte(fields::field(line, b'\t', 1), SILENCE_MAX) else {
         return refused(Refusal::BadNumber);
     };
-    let Byte::Is(count) = decimals::read_byte(fields::field(line, b'\t', 2), 64) else {
+    let Byte::Is(count) = decimals::read_byte(fields::field(line, b'\t', 2), COUNT_MAX) else {
         return refused(Refusal::BadNumber);
     };
     let mut samples = [0u8; DALI_RX_SAMPLE_BUF_LEN];
