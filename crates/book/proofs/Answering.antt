@@ -1,14 +1,10 @@
 -- The answer to a line, where there is room for it. Assumes nothing.
-use Prim.Native.Nat.{ℕ, _+_, _≤_, min}
+use Prim.Native.Nat.{ℕ, _+_, _≤_}
 use native.Mathlib.Numerals.{add-one}
 use native.Mathlib.Omega.{arith}
-use mathlib.Core.Bool.{Bool, true, false}
 use mathlib.Core.List.{List}
-use mathlib.Core.Path.{_≡_, refl, sym, ap, subst, _∙_}
-use lib.Dec.{ltb}
-use lib.ListN.{length, take}
-use lib.Seq.{take-all}
-use borrow.Author.Tests.{ltb-true, ltb-false}
+use mathlib.Core.Path.{_≡_, sym, ap, subst, _∙_}
+use lib.ListN.{length}
 use Rattle.laws.specs.Pick.{pick}
 use Rattle.text.specs.Writing.{placeAfter, bufferAfter}
 use Rattle.text.proofs.WritingLaws.{stored}
@@ -59,35 +55,24 @@ module _ (c : Counts) (place next : ℕ) (before after : List ℕ) (h : place + 
           left = rw (← add-one (c .lines), ← is) (wrote .1);
         }
 
--- ---- a line in its buffer
--- the shorter of a line's length and its buffer's is as good as the length
-shorter-held : (len : ℕ) (held : List ℕ) (t : Bool) → ltb len (length held) ≡ t → take (min len (length held)) held ≡ take len held
-shorter-held len held true e =
-    let h = ltb-true len (length held) e in
-    let m : min len (length held) ≡ len = omega arith in
-    ap (λ (n : ℕ). take n held) m
-shorter-held len held false e =
-    let h = ltb-false len (length held) e in
-    take-all (min len (length held)) held (omega arith) ∙ sym (take-all len held h)
-
+-- ---- a line that was read
 -- the capture beside a refusal plays no part
 whatever : {c : Counts} {refusal : Refusal} {place : ℕ} {before after : List ℕ} {r : Ended} (capture : Capture)
     → Answered c (Refused refusal) anyCapture place before after r → Answered c (Refused refusal) capture place before after r
 unfolding countedAs isDecodedAs answerAs
 whatever capture a = record { counts = a .counts; past = a .past; within = a .within; left = a .left }
 
-module _ (c : Counts) (held : List ℕ) (len count : ℕ) (read : BookLine) (h : count ≡ min len (length held)) (e : read ≡ lineOf (take count held)) (place : ℕ)
-    (before after : List ℕ) (r : Ended) where
+module _ (c : Counts) {line text : List ℕ} (h : text ≡ line) {read : BookLine} (e : read ≡ lineOf text) (place : ℕ) (before after : List ℕ) (r : Ended) where
   of-read : (answer : LineAnswer) → read .answer ≡ answer → Answered c answer (read .capture) place before after r
-      → AnsweredLine c (take len held) place before after r
+      → AnsweredLine c line place before after r
   of-read answer f a =
       subst (λ (b : BookLine). Answered c (b .answer) (b .capture) place before after r)
-      (e ∙ ap (λ (n : ℕ). lineOf (take n held)) h ∙ ap lineOf (shorter-held len held (ltb len (length held)) refl))
+      (e ∙ ap lineOf h)
       (subst (λ (x : LineAnswer). Answered c x (read .capture) place before after r) (sym f) a)
 
-  pub of-capture : read .answer ≡ Good → Answered c Good (read .capture) place before after r → AnsweredLine c (take len held) place before after r
+  pub of-capture : read .answer ≡ Good → Answered c Good (read .capture) place before after r → AnsweredLine c line place before after r
   of-capture f a = of-read Good f a
 
   pub of-refused : (refusal : Refusal) → read .answer ≡ Refused refusal → Answered c (Refused refusal) anyCapture place before after r
-      → AnsweredLine c (take len held) place before after r
+      → AnsweredLine c line place before after r
   of-refused refusal f a = of-read (Refused refusal) f (whatever (read .capture) a)

@@ -1,7 +1,7 @@
 // The heart of the bench reader (document 01, "The bench reader"): a reader by value that is fed the bytes of a book in chunks of any size
 // and writes the answers into a lent buffer. Where the book is cut into chunks makes no difference.
 ghost use mathlib.Core.Path.{_≡_};
-ghost use Prim.Native.Nat.{_+_, _*_, _≤_, _<_, min};
+ghost use Prim.Native.Nat.{_+_, _*_, _≤_, _<_};
 ghost use lib.ListN.{length, take as first};
 ghost use Rattle.bench_answers.specs.Answer.{rowMax};
 ghost use Rattle.bench_text.specs.declared.LineAnswer.the-variants.{Good, Refused};
@@ -17,6 +17,7 @@ use bench_text::LineAnswer;
 use bench_text::Refusal;
 use lines::LINE_ROOM;
 use lines::Lines;
+use text::fields;
 
 // A book has no more lines: what follows them is not read.
 pub const MAX_LINES: u32 = 999_999;
@@ -178,12 +179,6 @@ impl BookReader {
     }
 }
 
-fn shorter(a: usize, b: usize) -> usize
-    ensures { λ r. ⌜ r ≡ min a b ⌝ }
-{
-    if a < b { a } else { b }
-}
-
 // No count passes the most lines that a book has.
 fn one_more(count: u32) -> u32
     ensures { λ r. ⌜ r ≡ oneMore count ⌝ }
@@ -201,9 +196,7 @@ fn end_line(counts: Counts, held: &[u8; LINE_ROOM], len: usize, out: &mut [u8], 
     requires { ⌜ at + rowMax ≤ length (now out) ⌝ }
     ensures { λ r. ⌜ AnsweredLine counts (first len (now (held .entry))) at (now (out .entry)) (now (out .exit)) r ⌝ }
 {
-    let bytes: &[u8] = held;
-    let count = shorter(len, bytes.len());
-    let line = bench_text::parse_line(&bytes[..count]);
+    let line = bench_text::parse_line(fields::first(held, len));
     let answer = line.answer;
     match answer {
         LineAnswer::Good => {

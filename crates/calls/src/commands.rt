@@ -312,7 +312,7 @@ fn better(ops: Operands) -> Reply {
 
 fn lengths(ops: Operands) -> Reply {
     let bytes = ops.bytes;
-    let set = lengths::BitLengths::of(operands::first(&bytes, ops.len));
+    let set = lengths::BitLengths::of(fields::first(&bytes, ops.len));
     Reply::Truth(set.contains(ops.byte[2]))
 }
 

@@ -8,6 +8,7 @@ use crate::commands::Kept;
 use crate::reply::ANSWERS_ROOM;
 use crate::reply::Answers;
 use lines::LINE_ROOM;
+use text::fields;
 
 type Line = [u8; LINE_ROOM];
 
@@ -25,7 +26,7 @@ struct Session {
 
 // Answers the line that waits.
 fn end_line(mut session: Session, line: &Line, out: &mut Answers) -> Session {
-    let answer = commands::answered(operands::first(line, session.len), session.kept);
+    let answer = commands::answered(fields::first(line, session.len), session.kept);
     let end = reply::put(out, session.at, answer);
     session.at = text::writing::put_byte(out, end, b'\n');
     let kept = answer.kept;
@@ -39,7 +40,10 @@ fn end_line(mut session: Session, line: &Line, out: &mut Answers) -> Session {
 
 // Writes the answers that wait, unless a write has failed.
 fn flush(mut session: Session, out: &Answers) -> Session {
-    session.open = session.open && stdio::write_text(operands::first(out, session.at));
+    if session.open && !stdio::write_text(fields::first(out, session.at)) {
+        stdio::complain(b"error: standard output can't be written\n");
+        session.open = false;
+    }
     session.at = 0;
     session
 }
@@ -71,9 +75,11 @@ fn turn(
 ) -> Session {
     let report = stdio::read_chunk(number, chunk);
     if let stdio::Report::Bytes(count) = report {
-        return take_in(session, operands::first(chunk, count), line, out);
+        return take_in(session, fields::first(chunk, count), line, out);
     }
-    if 0 < session.len {
+    if let stdio::Report::Failed = report {
+        stdio::complain(b"error: standard input can't be read\n");
+    } else if 0 < session.len {
         session = flush(end_line(session, line, out), out);
     }
     session.open = false;

@@ -55,14 +55,6 @@ pub(crate) fn read(line: &[u8], signature: &[u8]) -> Operands {
     given
 }
 
-// The first bytes, so many of them, or all where there are fewer.
-pub(crate) fn first(bytes: &[u8], count: usize) -> &[u8] {
-    if bytes.len() < count {
-        return bytes;
-    }
-    &bytes[0..count]
-}
-
 // A mask's lengths are listed to make the set. 32 is no length.
 pub(crate) fn lengths_of(mask: u64) -> BitLengths {
     let mut lengths = [32u8; 32];
@@ -171,7 +163,7 @@ impl Operands {
     pub(crate) fn halfbits(self, place: usize) -> HalfBitBuffer {
         let bytes = self.bytes;
         let mut data = [0u8; HalfBitBuffer::DATA_LEN];
-        writing::put_text(&mut data, 0, first(&bytes, HalfBitBuffer::DATA_LEN));
+        writing::put_text(&mut data, 0, fields::first(&bytes, HalfBitBuffer::DATA_LEN));
         let length = self.byte[place % FIELDS];
         HalfBitBuffer { data, length }
     }
@@ -181,7 +173,11 @@ impl Operands {
         let bytes = self.bytes;
         let mut event = RxCompletedEvent::new();
         let mut samples = event.samples;
-        writing::put_text(&mut samples, 0, first(&bytes, DALI_RX_SAMPLE_BUF_LEN));
+        writing::put_text(
+            &mut samples,
+            0,
+            fields::first(&bytes, DALI_RX_SAMPLE_BUF_LEN),
+        );
         event.samples = samples;
         event.sample_count = self.short[place % FIELDS];
         event

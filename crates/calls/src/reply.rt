@@ -1,6 +1,5 @@
 // What a command is answered: a value, and the one function that writes it.
 use crate::commands::Answer;
-use crate::operands;
 use search::Found;
 use text::hex;
 use text::writing;
@@ -41,7 +40,7 @@ pub(crate) enum Reply {
 // Writes an answer from a place on, and answers the place past it.
 pub(crate) fn put(out: &mut Answers, at: usize, answer: Answer) -> usize {
     let held = answer.bytes;
-    let bytes = operands::first(&held, answer.len);
+    let bytes = text::fields::first(&held, answer.len);
     let reply = answer.reply;
     match reply {
         Reply::Bad => writing::put_text(out, at, b"?"),

@@ -7,6 +7,7 @@ ghost use lib.Seq.{sets};
 ghost use Rattle.lines.specs.Constants.{publicConstants};
 ghost use Rattle.lines.specs.Lines.{lineRoom, newLines, heldBy, kept, partFrom, taken};
 use text::fields;
+use text::writing;
 
 // Room for the longest line that counts, of 2,047 bytes, and one byte more, which tells that a line is longer.
 pub const LINE_ROOM: usize = 2_048;
@@ -86,17 +87,5 @@ fn keep(held: &mut [u8; LINE_ROOM], len: usize, bytes: &[u8]) -> usize
     if LINE_ROOM <= len {
         return len;
     }
-    let count = shorter(bytes.len(), LINE_ROOM - len);
-    let mut i: usize = 0;
-    while i < count {
-        held[len + i] = bytes[i];
-        i += 1;
-    }
-    len + count
-}
-
-fn shorter(a: usize, b: usize) -> usize
-    ensures { λ r. ⌜ r ≡ min a b ⌝ }
-{
-    if a < b { a } else { b }
+    writing::put_text(held, len, fields::first(bytes, LINE_ROOM - len))
 }

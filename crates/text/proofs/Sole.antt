@@ -3,6 +3,7 @@
 use mathlib.Core.Path.{_≡_}
 use Rattle.laws.proofs.Only.{Only, alike, named}
 use Rattle.text.proofs.fields.find.Reads as find
+use Rattle.text.proofs.fields.first.Reads as first
 use Rattle.text.proofs.fields.count.Reads as count
 use Rattle.text.proofs.fields.field.Reads as field
 use Rattle.text.proofs.words.is.Reads as is-word
@@ -23,6 +24,9 @@ use Rattle.text.proofs.hex.put_hex_digits.Reads as put-hex-digits
 -- ---- the fields
 pub find-sole : (κs : _) (a : _) (x : _) → Only (λ r. find.Post κs a r x)
 find-sole κs a x = named _
+
+pub first-sole : (κs : _) (a : _) (r s : _) (x y : _) → first.Post κs a r x → first.Post κs a s y → r .now ≡ s .now
+first-sole κs a r s x y p q = alike p q
 
 pub count-sole : (κs : _) (a : _) (x : _) → Only (λ r. count.Post κs a r x)
 count-sole κs a x = named _

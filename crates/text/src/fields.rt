@@ -2,7 +2,7 @@
 // there is read as an empty one.
 ghost use mathlib.Core.Path.{_≡_};
 ghost use Prim.Native.Nat.{_+_};
-ghost use lib.ListN.{drop};
+ghost use lib.ListN.{take, drop};
 ghost use Rattle.text.specs.Fields.{countAt, fieldAt, bytesBefore};
 
 // The place of the first mark at or after `from`. Where there is none it is the length, or `from` where that is past it.
@@ -17,6 +17,16 @@ pub fn find(text: &[u8], mark: u8, from: usize) -> usize
         i += 1;
     }
     i
+}
+
+// The first bytes, so many of them, or all where there are fewer.
+pub fn first(text: &[u8], count: usize) -> &[u8]
+    ensures { λ r. ⌜ now r ≡ take count (now (text .entry)) ⌝ }
+{
+    if text.len() <= count {
+        return text;
+    }
+    &text[..count]
 }
 
 // How many fields there are. Every text has one.

@@ -1,95 +1,47 @@
--- `lines::keep` meets its contract. While it copies: what is still to be stored, stored, gives what was promised. Assumes nothing.
-use Prim.Native.Nat.{ℕ, _+_, _-_, _≤_, _<_}
-use native.Mathlib.Nat.{add-zero}
+-- `lines::keep` meets its contract. Assumes nothing.
+use Prim.Native.Nat.{ℕ, _+_, _-_, _≤_, _<_, min}
 use native.Mathlib.Omega.{arith}
-use mathlib.Core.Path.{_≡_, sym, ap, _∙_}
-use lib.ListN.{length, take, drop, set, length-take}
-use lib.Seq.{sets, getD-take}
+use mathlib.Core.List.{List}
+use mathlib.Core.Path.{_≡_, ap, _∙_}
+use lib.ListN.{length, take, length-take}
+use lib.Seq.{sets}
 use borrow.Author.Needs.{needs}
-use Rattle.text.proofs.WritingLaws.{copy-on, copy-end}
+use borrow.Author.Tests.{le-leb}
+use Rattle.laws.proofs.Picked.{on-true}
+use Rattle.text.specs.Writing.{placeAfter, bufferAfter, placePast, bufferWith}
 use Rattle.lines.specs.Lines.{lineRoom}
 use Rattle.lines.proofs.keep.Statement.{statement}
 use Rattle.lines.proofs.keep.Tie as tie
 
-abbrev Inv-loop : tie.InvT-loop
-Inv-loop held₀ len bytes count i₀ held i =
-    (i ≤ count) × (sets held (len + i) (drop i (take (lineRoom - len) bytes)) ≡ sets held₀ len (take (lineRoom - len) bytes))
+-- as many bytes as there is room for have room
+stored : (held bytes text : List ℕ) (len : ℕ) → length held ≡ lineRoom → len < lineRoom → text ≡ take (lineRoom - len) bytes → {r : ℕ} {held′ : List ℕ}
+    → r ≡ placePast text len held → held′ ≡ bufferWith text len held
+    → (r ≡ len + min (length bytes) (lineRoom - len)) × (held′ ≡ sets held len (take (lineRoom - len) bytes))
+unfolding placeAfter bufferAfter
+stored held bytes text len whole h t p b =
+    let size : length text ≡ min (length bytes) (lineRoom - len) = ap length t ∙ rw length-take (omega arith) in
+    let fits = le-leb (len + length text) (length held) (omega arith) in
+    (p ∙ on-true fits _ _ ∙ ap (λ (n : ℕ). len + n) size, b ∙ on-true fits _ _ ∙ ap (sets held len) t)
 
-abbrev μ-loop : tie.MeasureT-loop
-μ-loop held₀ len bytes count i₀ held i = count - i
-
-returns : tie.Need-returns Inv-loop μ-loop
+returns : tie.Need-returns
 returns c =
-    let start = c .before .before in
-    let none : lineRoom - start .args .len ≡ 0 = omega arith in
+    let none : lineRoom - c .before .before .args .len ≡ 0 = omega arith in
     (omega arith, rw none)
 
-sub-shorter : tie.Need-sub-shorter Inv-loop μ-loop
-sub-shorter c = search needs
+sub-first : tie.Need-sub-first
+sub-first c = search needs
 
-shorter-requires : tie.Need-shorter-requires Inv-loop μ-loop
-shorter-requires c κs = search needs
+first-requires : tie.Need-first-requires
+first-requires c κs = search needs
 
-loop-holds : tie.Need-loop-holds Inv-loop μ-loop
-loop-holds c = (omega arith, rw add-zero)
+put-text-requires : tie.Need-put-text-requires
+put-text-requires c κs = search needs
 
-shared-slice-read-held : tie.Need-shared-slice-read-held Inv-loop μ-loop
-shared-slice-read-held c = search needs
-
-add-held : tie.Need-add-held Inv-loop μ-loop
-add-held c = search needs
-
-element-write-held : tie.Need-element-write-held Inv-loop μ-loop
-element-write-held c = search needs
-
-add-i : tie.Need-add-i Inv-loop μ-loop
-add-i c = search needs
-
-loop-less : tie.Need-loop-less Inv-loop μ-loop
-loop-less c = search needs
-
-loop-again : tie.Need-loop-again Inv-loop μ-loop
-loop-again c =
-    let start = c .before .before .before .before .before .before in
-    let held = c .before .before .loop .held in
-    let i = c .before .before .loop .i in
-    let bytes = start .args .bytes .now in
-    let len = start .args .len in
-    let count = c .before .before .before .shorter .ensures in
-    let within : i < length (take (lineRoom - len) bytes) = simp length-take (omega arith) in (
-      omega arith,
-      ap (λ (byte : ℕ). sets (set held (len + i) byte) (len + (i + 1)) (drop (i + 1) (take (lineRoom - len) bytes))) (sym (getD-take (lineRoom - len) bytes i 0 (omega arith)))
-          ∙ copy-on held (take (lineRoom - len) bytes) _ len i within (c .before .before .loop .inv .1),
-    )
-
-add-result : tie.Need-add-result Inv-loop μ-loop
-add-result c = search needs
-
-returns-2 : tie.Need-returns-2 Inv-loop μ-loop
+returns-2 : tie.Need-returns-2
 returns-2 c =
-    let start = c .before .before .before .before .before in
-    let i = c .before .loop .i in
-    let bytes = start .args .bytes .now in
-    let len = start .args .len in
-    let count = c .before .before .shorter .ensures in
-    let past : length (take (lineRoom - len) bytes) ≤ i = simp length-take (omega arith) in
-    (omega arith, copy-end (c .before .loop .held) (take (lineRoom - len) bytes) _ len i past (c .before .loop .inv .1))
+    let put = c .put-text .ensures in
+    let first = c .before .first .ensures in
+    stored _ _ _ _ (search needs) (omega arith) first (put .0) (put .1)
 
 pub keep-spec : {M : Type 1} → statement M
-keep-spec =
-    tie.close
-    (tie.spec
-    Inv-loop
-    μ-loop
-    returns
-    sub-shorter
-    shorter-requires
-    loop-holds
-    shared-slice-read-held
-    add-held
-    element-write-held
-    add-i
-    loop-less
-    loop-again
-    add-result
-    returns-2)
+keep-spec = tie.close (tie.spec returns sub-first first-requires put-text-requires returns-2)
