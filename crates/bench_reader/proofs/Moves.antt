@@ -12,7 +12,7 @@ use borrow.Author.Tests.{le-leb}
 use Rattle.laws.proofs.Picked.{on-true}
 use Rattle.stdio.specs.declared.Report.{Report}
 use Rattle.stdio.specs.declared.Report.the-variants.{Bytes as bytes-came, End as input-ended, Failed as read-failed}
-use Rattle.stdio.specs.Marks.{Came, Went}
+use Rattle.stdio.specs.Marks.{Came, Went, Complained}
 use Rattle.book.specs.declared.BookReader.{BookReader}
 use Rattle.book.specs.declared.Fed.{Fed}
 use Rattle.book.specs.declared.Said.{Said}
@@ -20,7 +20,7 @@ use Rattle.book.specs.declared.Said.the-variants.{Bytes}
 use Rattle.book.specs.Reader.{isOver, after, said, bytesIn, feedMax, fed, bufferFed, lastWords, finishMax, finished, bufferFinished}
 use Rattle.bench_reader.specs.declared.Next.{Next}
 use Rattle.bench_reader.specs.declared.Next.the-variants.{More, Over, End, Failed}
-use Rattle.bench_reader.specs.Run.{Ran, full, ended, unread, unwritten, fed as was-fed, isMore, Stops, Told, endless}
+use Rattle.bench_reader.specs.Run.{notRead, notWritten, Ran, full, ended, unread, unwritten, fed as was-fed, isMore, Stops, Finished, Told, endless}
 
 -- ---- the text at a buffer's start
 front : (text buffer : List ℕ) {buffer′ : List ℕ} {n : ℕ} → buffer′ ≡ sets buffer 0 text → n ≡ length text → n ≤ length buffer → take n buffer′ ≡ text
@@ -60,16 +60,16 @@ module _ {reads : ℕ} {r : BookReader} (buffer : List ℕ) (count : ℕ) (run :
   pub is-over : {done : Bool} → Went (take n out′) done → done ≡ true → isOver (f .reader) ≡ true → Ran (reads + 1) (f .reader) Over
   is-over w d o = rw (add-one reads, next-reader) (full reads r buffer count run came (rw (answers, d) at w) (rw next-reader at o))
 
-  pub breaks-off : {done : Bool} → Went (take n out′) done → done ≡ false → Ran (reads + 1) (f .reader) Failed
-  breaks-off w d = rw (add-one reads, next-reader) (unwritten reads r buffer count run came (rw (answers, d) at w))
+  pub breaks-off : {done : Bool} → Went (take n out′) done → done ≡ false → Complained notWritten → Ran (reads + 1) (f .reader) Failed
+  breaks-off w d told = rw (add-one reads, next-reader) (unwritten reads r buffer count run came (rw (answers, d) at w) told)
 
 -- ---- the read brought nothing
 module _ {reads : ℕ} {r : BookReader} (buffer : List ℕ) {report : Report} (run : Ran reads r More) (came : Came reads buffer report) where
   pub ends : report ≡ input-ended → Ran (reads + 1) r End
   ends e = rw (add-one reads) (ended reads r buffer run (rw e at came))
 
-  pub fails : report ≡ read-failed → Ran (reads + 1) r Failed
-  fails e = rw (add-one reads) (unread reads r buffer run (rw e at came))
+  pub fails : report ≡ read-failed → Complained notRead → Ran (reads + 1) r Failed
+  fails e told = rw (add-one reads) (unread reads r buffer run (rw e at came) told)
 
 -- ---- turn after turn
 is-more : (next : Next) → isMore next ≡ true → next ≡ More
@@ -91,9 +91,13 @@ unfolding isMore
 no-end {reads} {r} e run stops = endless r (rw (stops (ap isMore e), e) at run)
 
 -- ---- the last words are written
-pub last-text : (r : BookReader) (out : List ℕ) → finishMax ≤ length out → {s : Said} {out′ : List ℕ} {n : ℕ} → s ≡ finished r (length out)
-    → out′ ≡ bufferFinished r out → bytesIn s ≤ length out → n ≡ bytesIn s → take n out′ ≡ lastWords r
-unfolding finished bufferFinished
-last-text r out room e g h k =
-    let enough = le-leb finishMax (length out) room in
-    front (lastWords r) out (g ∙ on-true enough _ _) (in-bytes (e ∙ on-true enough _ _) k) (omega (arith, h, k))
+module _ (r : BookReader) (out : List ℕ) (room : finishMax ≤ length out) {s : Said} (e : s ≡ finished r (length out)) {out′ : List ℕ}
+    (g : out′ ≡ bufferFinished r out) (h : bytesIn s ≤ length out) {n : ℕ} (k : n ≡ bytesIn s) where
+  last-text : take n out′ ≡ lastWords r
+  unfolding finished bufferFinished
+  last-text =
+      let enough = le-leb finishMax (length out) room in
+      front (lastWords r) out (g ∙ on-true enough _ _) (in-bytes (e ∙ on-true enough _ _) k) (omega (arith, h, k))
+
+  pub said-last : {done : Bool} → Went (take n out′) done → (done ≡ false → Complained notWritten) → Finished r done
+  said-last w told = record { went = rw last-text at w; or-said = told }

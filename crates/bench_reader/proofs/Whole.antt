@@ -1,15 +1,13 @@
 -- What a run has written, with the last words of its reader, is the report. Assumes nothing.
-use Prim.Native.Nat.{ℕ, zero, suc, _<_}
-use native.Mathlib.Omega.{arith}
-use mathlib.Core.Bool.{Bool, true, false}
+use Prim.Native.Nat.{ℕ, _<_}
+use mathlib.Core.Bool.{true}
 use mathlib.Core.List.{List, [], _∷_, _++_, append-assoc, append-nil}
 use mathlib.Core.Path.{_≡_, refl, sym, ap, _∙_}
 use lib.ListN.{length, take}
 use borrow.Author.Tests.{ltb-true}
-use Rattle.laws.specs.Pick.{pick}
-use Rattle.text.specs.Fields.{grow, partedAt}
 use Rattle.lines.specs.Lines.{linesOf}
 use Rattle.lines.specs.AnyChunks.{joined}
+use Rattle.lines.proofs.More.{lines-more}
 use Rattle.book.specs.declared.BookReader.{BookReader}
 use Rattle.book.specs.Report.{linesMax, reportOf, report}
 use Rattle.book.specs.Reader.{newReader, isOver, after, said, lastWords}
@@ -42,19 +40,19 @@ spoken-more r [] last = append-nil _
 spoken-more r (chunk ∷ chunks) last =
     ap (λ (text : List ℕ). said r chunk ++ text) (spoken-more (after r chunk) chunks last) ∙ sym (append-assoc (said r chunk) _ _)
 
+leads-on : (chunks : List (List ℕ)) (last : List ℕ) {r : BookReader} → afterAll newReader chunks ≡ r → afterAll newReader (chunks ++ (last ∷ [])) ≡ after r last
+leads-on chunks last e = after-more newReader chunks last ∙ ap (λ (x : BookReader). after x last) e
+
 -- ---- a run
 -- Its reader is where the chunks that it was fed lead to,
 leads : {reads : ℕ} {r : BookReader} {next : Next} (run : Ran reads r next) → afterAll newReader (cameIn run) ≡ r
 unfolding cameIn afterAll
 leads begun = refl
-leads (fed reads r buffer count run came went more) =
-    after-more newReader (cameIn run) (take count buffer) ∙ ap (λ (x : BookReader). after x (take count buffer)) (leads run)
-leads (full reads r buffer count run came went over) =
-    after-more newReader (cameIn run) (take count buffer) ∙ ap (λ (x : BookReader). after x (take count buffer)) (leads run)
+leads (fed reads r buffer count run came went more) = leads-on (cameIn run) (take count buffer) (leads run)
+leads (full reads r buffer count run came went over) = leads-on (cameIn run) (take count buffer) (leads run)
 leads (ended reads r buffer run came) = leads run
-leads (unread reads r buffer run came) = leads run
-leads (unwritten reads r buffer count run came went) =
-    after-more newReader (cameIn run) (take count buffer) ∙ ap (λ (x : BookReader). after x (take count buffer)) (leads run)
+leads (unread reads r buffer run came told) = leads run
+leads (unwritten reads r buffer count run came went told) = leads-on (cameIn run) (take count buffer) (leads run)
 
 -- and what it wrote is what was said of them.
 wrote-more : {reads : ℕ} {r : BookReader} (run : Ran reads r More) (chunk : List ℕ) → wroteIn run ≡ spoken newReader (cameIn run)
@@ -79,32 +77,6 @@ unfolding wroteIn cameIn
 writes-the-report reads r (ended before r′ buffer run came) = reported run (wrote run)
 
 -- ---- what follows the last line that is read
-take-grow : (byte m : ℕ) (parts : List (List ℕ)) → take (suc m) (grow byte parts) ≡ grow byte (take (suc m) parts)
-unfolding grow
-take-grow byte zero [] = refl
-take-grow byte (suc m) [] = refl
-take-grow byte m (part ∷ parts) = refl
-
-grown : (byte m : ℕ) (parts : List (List ℕ)) → suc m < length (grow byte parts) → suc m < length parts
-unfolding grow
-grown byte m [] h = absurd (omega arith)
-grown byte m (part ∷ parts) h = h
-
-byte-more : (t : Bool) (byte n : ℕ) (a b : List (List ℕ)) → ((m : ℕ) → m < length b → take m a ≡ take m b)
-    → n < length (pick t ([] ∷ b) (grow byte b)) → take n (pick t ([] ∷ a) (grow byte a)) ≡ take n (pick t ([] ∷ b) (grow byte b))
-unfolding pick
-byte-more t byte zero a b same h = refl
-byte-more true byte (suc m) a b same h = ap (λ (parts : List (List ℕ)). [] ∷ parts) (same m (omega arith))
-byte-more false byte (suc m) a b same h =
-    take-grow byte m a ∙ ap (grow byte) (same (suc m) (grown byte m b h)) ∙ sym (take-grow byte m b)
-
--- Bytes more change the last line, and no line before it.
-lines-more : (input rest : List ℕ) (n : ℕ) → n < length (linesOf input) → take n (linesOf (input ++ rest)) ≡ take n (linesOf input)
-unfolding partedAt
-lines-more [] rest n h = absurd (omega arith)
-lines-more (byte ∷ input) rest n h =
-    byte-more _ byte n (linesOf (input ++ rest)) (linesOf input) (lines-more input rest) h
-
 report-more : (input rest : List ℕ) → linesMax < length (linesOf input) → report input ≡ report (input ++ rest)
 unfolding report
 report-more input rest h = ap reportOf (sym (lines-more input rest linesMax h))

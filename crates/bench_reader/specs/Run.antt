@@ -1,16 +1,29 @@
--- What the program promises. A mark of `stdio`, `Came` or `Went`, comes from a call and no other way. Assumes nothing.
+-- What the program promises. A mark of `stdio`, `Came`, `Went` or `Complained`, comes from a call and no other way. Assumes nothing.
 use Prim.Native.Nat.{ℕ, suc}
 use mathlib.Core.Bool.{Bool, true, false}
 use mathlib.Core.List.{List, [], _∷_, _++_}
 use mathlib.Core.Path.{_≡_}
 use lib.ListN.{take}
+use Rattle.text.specs.Letters.{word}
 use Rattle.stdio.specs.declared.Report.the-variants.{Bytes, End as input-ended, Failed as read-failed}
-use Rattle.stdio.specs.Marks.{Came, Went}
+use Rattle.stdio.specs.Marks.{Came, Went, Complained}
 use Rattle.book.specs.declared.BookReader.{BookReader}
 use Rattle.book.specs.Reader.{newReader, isOver, after, said, lastWords}
 use Rattle.bench_reader.specs.declared.Next.{Next}
 use Rattle.bench_reader.specs.declared.Next.the-variants.{More, Over, End, Failed}
 
+-- ---- what it says on standard error
+-- A line each: a `note` where the work was done all the same, an `error` where it was not.
+abbrev pub moreLines : List ℕ
+moreLines = word "note: no line after the 999,999th was read\n"
+
+abbrev pub notRead : List ℕ
+notRead = word "error: standard input can't be read, so there is no END line\n"
+
+abbrev pub notWritten : List ℕ
+notWritten = word "error: standard output can't be written\n"
+
+-- ---- a run
 -- Reads one after the other, from a new reader on: how many there were, the reader that they led to, and how the run goes on.
 pub data Ran : ℕ → BookReader → Next → Type 0 where
   begun : Ran 0 newReader More
@@ -26,11 +39,13 @@ pub data Ran : ℕ → BookReader → Next → Type 0 where
       → Ran (suc reads) (after r (take count buffer)) Over
   -- The read told the end of the input.
   ended : (reads : ℕ) (r : BookReader) (buffer : List ℕ) → Ran reads r More → Came reads buffer input-ended → Ran (suc reads) r End
-  -- The read failed.
-  unread : (reads : ℕ) (r : BookReader) (buffer : List ℕ) → Ran reads r More → Came reads buffer read-failed → Ran (suc reads) r Failed
-  -- The write failed.
+  -- The read failed, and that was said.
+  unread : (reads : ℕ) (r : BookReader) (buffer : List ℕ)
+      → Ran reads r More → Came reads buffer read-failed → Complained notRead
+      → Ran (suc reads) r Failed
+  -- The write failed, and that was said.
   unwritten : (reads : ℕ) (r : BookReader) (buffer : List ℕ) (count : ℕ)
-      → Ran reads r More → Came reads buffer (Bytes count) → Went (said r (take count buffer)) false
+      → Ran reads r More → Came reads buffer (Bytes count) → Went (said r (take count buffer)) false → Complained notWritten
       → Ran (suc reads) (after r (take count buffer)) Failed
 
 unfoldable pub isMore : Next → Bool
@@ -46,11 +61,17 @@ readsMax = 18446744073709551615
 abbrev pub Stops : ℕ → Next → Type 0
 Stops reads next = isMore next ≡ true → reads ≡ readsMax
 
--- what the whole program does
+-- ---- the whole program
+-- The last words of a reader were written, or it was said that they could not be.
+pub record Finished (r : BookReader) (done : Bool) : Type 0 where
+  pub went : Went (lastWords r) done
+  pub or-said : done ≡ false → Complained notWritten
+
 pub data Told : Type 0 where
-  -- The input was read to its end, and the last words of the reader that it led to were written, or the write of them failed.
-  to-the-end : (reads : ℕ) (r : BookReader) (done : Bool) → Ran reads r End → Went (lastWords r) done → Told
-  to-the-last-line : (reads : ℕ) (r : BookReader) (done : Bool) → Ran reads r Over → Went (lastWords r) done → Told
+  -- The input was read to its end, and the reader that it led to had its last words.
+  to-the-end : (reads : ℕ) (r : BookReader) (done : Bool) → Ran reads r End → Finished r done → Told
+  -- The book was full, and it was said that there was more.
+  to-the-last-line : (reads : ℕ) (r : BookReader) (done : Bool) → Ran reads r Over → Finished r done → Complained moreLines → Told
   -- A read or a write failed.
   broken-off : (reads : ℕ) (r : BookReader) → Ran reads r Failed → Told
   endless : (r : BookReader) → Ran readsMax r More → Told
@@ -62,8 +83,8 @@ cameIn begun = []
 cameIn (fed reads r buffer count run came went more) = cameIn run ++ (take count buffer ∷ [])
 cameIn (full reads r buffer count run came went over) = cameIn run ++ (take count buffer ∷ [])
 cameIn (ended reads r buffer run came) = cameIn run
-cameIn (unread reads r buffer run came) = cameIn run
-cameIn (unwritten reads r buffer count run came went) = cameIn run ++ (take count buffer ∷ [])
+cameIn (unread reads r buffer run came told) = cameIn run
+cameIn (unwritten reads r buffer count run came went told) = cameIn run ++ (take count buffer ∷ [])
 
 -- and all that it wrote
 unfoldable pub wroteIn : {reads : ℕ} {r : BookReader} {next : Next} → Ran reads r next → List ℕ
@@ -71,5 +92,5 @@ wroteIn begun = []
 wroteIn (fed reads r buffer count run came went more) = wroteIn run ++ said r (take count buffer)
 wroteIn (full reads r buffer count run came went over) = wroteIn run ++ said r (take count buffer)
 wroteIn (ended reads r buffer run came) = wroteIn run
-wroteIn (unread reads r buffer run came) = wroteIn run
-wroteIn (unwritten reads r buffer count run came went) = wroteIn run
+wroteIn (unread reads r buffer run came told) = wroteIn run
+wroteIn (unwritten reads r buffer count run came went told) = wroteIn run

@@ -1,12 +1,13 @@
 // The bench reader: a book of captures on standard input, an answer a line on standard output. What is written is made by `book`; here bytes
 // are only moved. What the program promises is said in specs/Run.antt: each read is fed whole and once, in order; what is said of it is
-// written; and the end of the input is answered by the reader that all of it led to.
+// written; the end of the input is answered by the reader that all of it led to; and what could not be done is said on standard error.
 ghost use mathlib.Core.Path.{_≡_};
 ghost use Prim.Native.Nat.{_+_, _<_};
 ghost use lib.ListN.{length};
-ghost use Rattle.book.specs.Reader.{bytesIn, lastWords};
-ghost use Rattle.stdio.specs.Marks.{Came, Went, Within};
-ghost use Rattle.bench_reader.specs.Run.{Ran, isMore, readsMax, Stops, Told};
+ghost use Rattle.book.specs.Reader.{bytesIn};
+ghost use Rattle.stdio.specs.Marks.{Came, Complained, Within};
+ghost use Rattle.bench_reader.specs.Constants.{limits};
+ghost use Rattle.bench_reader.specs.Run.{notWritten, Ran, isMore, readsMax, Stops, Finished, Told};
 ghost use Rattle.stdio.specs.declared.Report.the-variants.{Bytes};
 ghost use Rattle.bench_reader.specs.declared.Next.the-variants.{More};
 use bench_answers::ROW_MAX;
@@ -23,6 +24,21 @@ const CHUNK_MAX: usize = 16_384;
 type Answers = [u8; ANSWERS_ROOM];
 
 const ANSWERS_ROOM: usize = CHUNK_MAX * ROW_MAX;
+
+// Nobody calls this: its promise says what each limit is.
+fn constants() -> Limits
+    ensures { λ r. ⌜ r ≡ limits ⌝ }
+{
+    Limits {
+        chunk_max: CHUNK_MAX,
+        answers_room: ANSWERS_ROOM,
+    }
+}
+
+struct Limits {
+    chunk_max: usize,
+    answers_room: usize,
+}
 
 // How a run goes on: it reads again; a byte came after the last line that a book may have; the input has ended; or a read or a write failed.
 enum Next {
@@ -151,7 +167,7 @@ fn take_in(reads: u64, reader: BookReader, chunk: &Chunk, count: usize, out: &mu
     let end = bytes_in(said);
     let answers: &[u8] = out;
     if !stdio::write_text(&answers[..end]) {
-        stdio::complain(b"error: standard output can't be written\n");
+        say_not_written();
         return Run {
             reads: made,
             reader: next,
@@ -172,10 +188,16 @@ fn take_in(reads: u64, reader: BookReader, chunk: &Chunk, count: usize, out: &mu
     }
 }
 
+fn say_not_written()
+    ensures { λ _. ⌜ Complained notWritten ⌝ }
+{
+    stdio::complain(b"error: standard output can't be written\n");
+}
+
 // Answers the end of the input. All that the run said before is written by then.
 fn finish(run: Run, out: &mut Answers) -> bool
     requires { ⌜ Ran (run .reads) (run .reader) (run .next) ⌝ }
-    ensures { λ r. ⌜ Went (lastWords (run .reader)) r ⌝ }
+    ensures { λ r. ⌜ Finished (run .reader) r ⌝ }
 {
     let reader = run.reader;
     let said = reader.finish(out);
@@ -183,7 +205,7 @@ fn finish(run: Run, out: &mut Answers) -> bool
     let answers: &[u8] = out;
     let done = stdio::write_text(&answers[..end]);
     if !done {
-        stdio::complain(b"error: standard output can't be written\n");
+        say_not_written();
     }
     done
 }

@@ -1,9 +1,9 @@
 // Standard input and standard output: the one place where a program's bytes come in, and the one where they leave. A promise can't say what a
-// file holds, so it hands out a mark that no proof can make by itself: `Came` of what a read reported, `Went` of what was to be written. A
-// program that promises something of all that came and went can only get there by these calls.
+// file holds, so it hands out a mark that no proof can make by itself: `Came` of what a read reported, `Went` of what was to be written,
+// `Complained` of what was to be said of a failure. A program that promises something of all that came and went can only get there by these calls.
 ghost use mathlib.Core.Path.{_≡_};
 ghost use lib.ListN.{length};
-ghost use Rattle.stdio.specs.Marks.{Came, Went, Within};
+ghost use Rattle.stdio.specs.Marks.{Came, Went, Complained, Within};
 use libc::STDERR_FILENO;
 use libc::STDIN_FILENO;
 use libc::STDOUT_FILENO;
@@ -39,6 +39,8 @@ pub fn write_text(text: &[u8]) -> bool
 }
 
 // Says on standard error what could not be done.
-pub fn complain(message: &[u8]) {
+pub fn complain(message: &[u8])
+    ensures { λ _. ⌜ Complained (now (message .entry)) ⌝ }
+{
     io::write_all(STDERR_FILENO, message);
 }

@@ -49,7 +49,7 @@ returns-4 : tie.Need-returns-4
 returns-4 c =
     let finish = c .before .before in
     let told = finish .before .before in
-    to-the-last-line _ _ _ (rw (told .enum-told4 .given .1) at (told .before .before .read-all .ensures .0)) (finish .finish2 .ensures)
+    to-the-last-line _ _ _ (rw (told .enum-told4 .given .1) at (told .before .before .read-all .ensures .0)) (finish .finish2 .ensures) (c .complain .ensures)
 
 pub answer-book-spec : {M : Type 1} → statement M
 answer-book-spec =

@@ -1,7 +1,10 @@
 -- `bench_reader::finish` meets its contract. Assumes nothing.
 use native.Mathlib.Omega.{arith}
+use mathlib.Core.Bool.{false≢true}
+use mathlib.Core.Path.{sym, _∙_}
+use borrow.Author.Tests.{not-false}
 use lib.ListN.{length-take}
-use Rattle.bench_reader.proofs.Moves.{last-text}
+use Rattle.bench_reader.proofs.Moves.{said-last}
 use borrow.Author.Needs.{needs}
 use Rattle.bench_reader.proofs.finish.Statement.{statement}
 use Rattle.bench_reader.proofs.finish.Tie as tie
@@ -21,23 +24,22 @@ slice-aggregate-write-text c =
 write-text-requires : tie.Need-write-text-requires
 write-text-requires c κs = search needs
 
-slice-aggregate-complain : tie.Need-slice-aggregate-complain
-slice-aggregate-complain c = search needs
-
-complain-requires : tie.Need-complain-requires
-complain-requires c κs = search needs
+say-not-written-requires : tie.Need-say-not-written-requires
+say-not-written-requires c κs = search needs
 
 returns : tie.Need-returns
 returns c =
-    let text = c .before .before .before .before .before .before .before in
+    let text = c .before .before .before .before .before .before in
     let end = text .before .finish .ensures in
-    rw (last-text _ _ (omega arith) (end .0) (end .1 .0) (end .1 .1) (text .bytes-in .ensures)) at (c .before .before .before .write-text .ensures)
+    let went = c .before .before .write-text .ensures in
+    said-last _ _ (omega arith) (end .0) (end .1 .0) (end .1 .1) (text .bytes-in .ensures) went (λ _. c .say-not-written .ensures)
 
 returns-2 : tie.Need-returns-2
 returns-2 c =
     let text = c .before .before .before .before .before in
     let end = text .before .finish .ensures in
-    rw (last-text _ _ (omega arith) (end .0) (end .1 .0) (end .1 .1) (text .bytes-in .ensures)) at (c .before .write-text .ensures)
+    let went = c .before .write-text .ensures in
+    said-last _ _ (omega arith) (end .0) (end .1 .0) (end .1 .1) (text .bytes-in .ensures) went (λ no. absurd (false≢true (sym no ∙ not-false _ (c .if1 .left))))
 
 pub finish-spec : {M : Type 1} → statement M
 finish-spec =
@@ -47,7 +49,6 @@ finish-spec =
     bytes-in-requires
     slice-aggregate-write-text
     write-text-requires
-    slice-aggregate-complain
-    complain-requires
+    say-not-written-requires
     returns
     returns-2)

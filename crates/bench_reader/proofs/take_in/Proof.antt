@@ -33,21 +33,18 @@ slice-aggregate-write-text c =
 write-text-requires : tie.Need-write-text-requires
 write-text-requires c κs = search needs
 
-slice-aggregate-complain : tie.Need-slice-aggregate-complain
-slice-aggregate-complain c = search needs
-
-complain-requires : tie.Need-complain-requires
-complain-requires c κs = search needs
+say-not-written-requires : tie.Need-say-not-written-requires
+say-not-written-requires c κs = search needs
 
 returns : tie.Need-returns
 returns c =
-    let wrote = c .before .before .before in
+    let wrote = c .before .before in
     let text = wrote .before .before .before .before in
     let feed = text .before .before in
     let start = feed .before .before .before .before in
     let pre = start .pre in
     let fed = feed .feed .ensures in
-    (refl, breaks-off _ _ (pre .1 .0) (pre .1 .1 .1) _ (omega arith) (fed .0) (fed .1 .0) (fed .1 .1) (text .bytes-in .ensures) (wrote .write-text .ensures) (not-true _ (c .before .before .if1 .taken)))
+    (refl, breaks-off _ _ (pre .1 .0) (pre .1 .1 .1) _ (omega arith) (fed .0) (fed .1 .0) (fed .1 .1) (text .bytes-in .ensures) (wrote .write-text .ensures) (not-true _ (c .before .if1 .taken)) (c .say-not-written .ensures))
 
 is-over-requires : tie.Need-is-over-requires
 is-over-requires c κs = search needs
@@ -82,8 +79,7 @@ take-in-spec =
     bytes-in-requires
     slice-aggregate-write-text
     write-text-requires
-    slice-aggregate-complain
-    complain-requires
+    say-not-written-requires
     returns
     is-over-requires
     returns-2

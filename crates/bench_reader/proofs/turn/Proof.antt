@@ -43,7 +43,7 @@ returns-2 c =
 returns-3 : tie.Need-returns-3
 returns-3 c =
     let read = c .before .before .before .before in
-    (refl, fails _ (read .before .before .pre .1) (read .read-chunk .ensures .1) (c .before .before .enum-told2 .given .1))
+    (refl, fails _ (read .before .before .pre .1) (read .read-chunk .ensures .1) (c .before .before .enum-told2 .given .1) (c .complain .ensures))
 
 pub turn-spec : {M : Type 1} → statement M
 turn-spec =
