@@ -44,6 +44,10 @@ impl Kept {
         }
     }
 
+    fn with_search(self, search: BestPhaseSearch) -> Kept {
+        Kept { search, ..self }
+    }
+
     fn with_station(self, station: DaliBitbangPhy) -> Kept {
         Kept { station, ..self }
     }
@@ -119,7 +123,7 @@ fn run(command: usize, kept: Kept, ops: Operands) -> Answer {
         9 => kept.done_by(kept.station.acknowledge_rx_frame()),
         10 => kept.says(Reply::State),
         14 => steps(kept, ops),
-        15 => bsnew(kept, ops),
+        15 => kept.with_search(new_search(ops)).says(OK),
         16 => bsstep(kept, ops),
         17 => kept.says(Reply::Run(kept.search.run(ops.window(1)))),
         23 => encode(kept, ops),
@@ -149,7 +153,7 @@ fn reply_to(command: usize, ops: Operands) -> Reply {
         19 => sniffed(Found::Decode(ops.decode(1))),
         20 => Reply::Backward(rx_decode::decode_backward_byte(ops.event(1))),
         21 => Reply::Number(rx_decode::longest_dominant_run_ticks(ops.event(1))),
-        22 => Reply::Truth(rx_decode::is_line_held(ops.event(1))),
+        22 => Reply::Number(rx_decode::is_line_held(ops.event(1)) as u16),
         25 => better(ops),
         26 => lengths(ops),
         27 => Reply::Number(fsm::settle_ticks_on_wire(ops.short[1], ops.byte[2])),
@@ -202,7 +206,15 @@ fn ticks(kept: Kept, ops: Operands) -> Answer {
 
 fn started(kept: Kept, start: fsm::Started) -> Answer {
     let answer = start.answer;
-    kept.with_station(start.station).says(Reply::Start(answer))
+    kept.with_station(start.station).says(start_reply(answer))
+}
+
+fn start_reply(answer: fsm::StartAnswer) -> Reply {
+    match answer {
+        fsm::StartAnswer::Started => OK,
+        fsm::StartAnswer::Busy => Reply::Done(7),
+        fsm::StartAnswer::BadLength => Reply::Done(8),
+    }
 }
 
 fn poll(kept: Kept) -> Answer {
@@ -213,7 +225,8 @@ fn poll(kept: Kept) -> Answer {
 
 fn take_idle(kept: Kept) -> Answer {
     let got = kept.station.take_idle_after_break();
-    kept.with_station(got.station).says(Reply::Truth(got.idle))
+    kept.with_station(got.station)
+        .says(Reply::Number(got.idle as u16))
 }
 
 fn take_rx(kept: Kept) -> Answer {
@@ -244,27 +257,17 @@ fn steps(kept: Kept, ops: Operands) -> Answer {
     for _ in 0..count {
         let stepped = search.step(window);
         let step = stepped.answer;
-        end = put_next(&mut text, end, step);
+        let at = text::writing::put_text(&mut text, end, b" | ");
+        end = crate::reply::put_step(&mut text, at, b"", step);
         search = stepped.search;
     }
     kept.tells(Reply::Steps(count), text, end)
 }
 
-fn put_next(text: &mut Bytes, end: usize, step: search::PhaseSearch) -> usize {
-    let at = text::writing::put_text(text, end, b" | ");
-    crate::reply::put_step(text, at, b"", step)
-}
-
-fn bsnew(kept: Kept, ops: Operands) -> Answer {
-    let search = new_search(ops);
-    Kept { search, ..kept }.says(OK)
-}
-
 fn bsstep(kept: Kept, ops: Operands) -> Answer {
     let stepped = kept.search.step(ops.window(1));
     let step = stepped.answer;
-    let search = stepped.search;
-    Kept { search, ..kept }.says(Reply::Step(step))
+    kept.with_search(stepped.search).says(Reply::Step(step))
 }
 
 // A new event that holds a finished search.
@@ -306,14 +309,13 @@ fn encode_first(ops: Operands, buffer: &mut [u8]) -> halfbits::EncodeAnswer {
 
 fn better(ops: Operands) -> Reply {
     let preferred = operands::lengths_of(ops.long[1]);
-    let better = search::is_better_decode(ops.decode(2), ops.decode(5), preferred);
-    Reply::Truth(better)
+    Reply::Number(search::is_better_decode(ops.decode(2), ops.decode(5), preferred) as u16)
 }
 
 fn lengths(ops: Operands) -> Reply {
     let bytes = ops.bytes;
     let set = lengths::BitLengths::of(fields::first(&bytes, ops.len));
-    Reply::Truth(set.contains(ops.byte[2]))
+    Reply::Number(set.contains(ops.byte[2]) as u16)
 }
 
 // The line before stays where none has that count.
@@ -357,7 +359,7 @@ fn lstarted(kept: Kept, started: bench_line::LineStarted) -> Answer {
     let bench_line::LineStart::Told(told) = answer else {
         return kept.says(NO_STATION);
     };
-    kept.with_bench(started.line).says(Reply::Start(told))
+    kept.with_bench(started.line).says(start_reply(told))
 }
 
 fn lpoll(kept: Kept, number: u8) -> Answer {
@@ -375,7 +377,7 @@ fn ltake_idle(kept: Kept, number: u8) -> Answer {
     let bench_line::LineTold::Told(idle) = answer else {
         return kept.says(NO_STATION);
     };
-    kept.with_bench(took.line).says(Reply::Truth(idle))
+    kept.with_bench(took.line).says(Reply::Number(idle as u16))
 }
 
 fn ltake_rx(kept: Kept, number: u8) -> Answer {

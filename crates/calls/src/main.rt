@@ -16,6 +16,7 @@ type Line = [u8; LINE_ROOM];
 const NEARLY_FULL: usize = ANSWERS_ROOM - 4_096;
 
 struct Session {
+    reads: u64,
     kept: Kept,
     // How many bytes of a line wait for its end, and how many of answers to be written.
     len: usize,
@@ -66,14 +67,8 @@ fn take_in(mut session: Session, chunk: &[u8], line: &mut Line, out: &mut Answer
 }
 
 // Reads once, and answers the lines that are whole by then. At the input's end a last line without its LF is answered too.
-fn turn(
-    mut session: Session,
-    number: u64,
-    chunk: &mut Answers,
-    line: &mut Line,
-    out: &mut Answers,
-) -> Session {
-    let report = stdio::read_chunk(number, chunk);
+fn turn(mut session: Session, chunk: &mut Answers, line: &mut Line, out: &mut Answers) -> Session {
+    let report = stdio::read_chunk(session.reads, chunk);
     if let stdio::Report::Bytes(count) = report {
         return take_in(session, fields::first(chunk, count), line, out);
     }
@@ -92,13 +87,15 @@ fn main() {
     let mut line = [0u8; LINE_ROOM];
     let mut out = [0u8; ANSWERS_ROOM];
     let mut session = Session {
+        reads: 0,
         kept: Kept::new(),
         len: 0,
         at: 0,
         open: true,
     };
-    for number in 0..u64::MAX {
-        session = turn(session, number, &mut chunk, &mut line, &mut out);
+    for reads in 0..u64::MAX {
+        session.reads = reads;
+        session = turn(session, &mut chunk, &mut line, &mut out);
         if !session.open {
             return;
         }

@@ -9,9 +9,9 @@ use fsm::RxCompletedEvent;
 use halfbits::HalfBitBuffer;
 use lengths::BitLengths;
 use text::decimals;
+use text::decimals::Number;
 use text::fields;
 use text::hex;
-use text::hex::HexNumber;
 use text::signed;
 use text::words;
 use text::writing;
@@ -67,17 +67,10 @@ pub(crate) fn lengths_of(mask: u64) -> BitLengths {
     BitLengths::of(&lengths)
 }
 
-fn widened(number: decimals::Number) -> HexNumber {
-    match number {
-        decimals::Number::Is(number) => HexNumber::Is(number as u64),
-        decimals::Number::Bad => HexNumber::Bad,
-    }
-}
-
-fn policy_in(field: &[u8]) -> HexNumber {
+fn policy_in(field: &[u8]) -> Number {
     match words::place(field, b"auto off on") {
-        3 => HexNumber::Bad,
-        place => HexNumber::Is(place as u64),
+        3 => Number::Bad,
+        place => Number::Is(place as u64),
     }
 }
 
@@ -85,11 +78,11 @@ impl Operands {
     fn with(self, line: &[u8], place: usize, letter: u8) -> Operands {
         let field = fields::field(line, b' ', (place % FIELDS) as u8);
         match letter {
-            b'l' => self.with_number(place, widened(decimals::read_number(field, 1))),
-            b'k' => self.with_number(place, widened(decimals::read_number(field, 8))),
-            b'b' => self.with_number(place, widened(decimals::read_number(field, 255))),
-            b't' => self.with_number(place, widened(decimals::read_number(field, 4_096))),
-            b'n' => self.with_number(place, widened(decimals::read_number(field, 65_535))),
+            b'l' => self.with_number(place, decimals::read_number(field, 1)),
+            b'k' => self.with_number(place, decimals::read_number(field, 8)),
+            b'b' => self.with_number(place, decimals::read_number(field, 255)),
+            b't' => self.with_number(place, decimals::read_number(field, 4_096)),
+            b'n' => self.with_number(place, decimals::read_number(field, 65_535)),
             b's' => self.with_signed(place, signed::read_signed(field)),
             b'h' => self.with_number(place, hex::read_hex_number(field, 2)),
             b'm' => self.with_number(place, hex::read_hex_number(field, 8)),
@@ -106,8 +99,8 @@ impl Operands {
         self
     }
 
-    fn with_number(mut self, place: usize, number: HexNumber) -> Operands {
-        let HexNumber::Is(number) = number else {
+    fn with_number(mut self, place: usize, number: Number) -> Operands {
+        let Number::Is(number) = number else {
             return self.bad();
         };
         let n = place % FIELDS;

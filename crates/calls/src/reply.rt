@@ -15,14 +15,12 @@ pub(crate) enum Reply {
     None,
     // `ok` for 0, else `refused N`
     Done(u8),
-    Truth(bool),
     Number(u16),
     // a driven level or the line's, and waves of them
     Driven(bool),
     Level(bool),
     DrivenWave,
     LevelWave,
-    Start(fsm::StartAnswer),
     Poll(fsm::TxPollResult),
     // COUNT and PRE of an event
     Event(u16, u8),
@@ -46,23 +44,12 @@ pub(crate) fn put(out: &mut Answers, at: usize, answer: Answer) -> usize {
         Reply::Bad => writing::put_text(out, at, b"?"),
         Reply::None => writing::put_text(out, at, b"none"),
         Reply::Done(number) => put_done(out, at, number),
-        Reply::Truth(truth) => put_number(out, at, b"", truth as u16),
         Reply::Number(number) => put_number(out, at, b"", number),
         Reply::Driven(high) => put_number(out, at, b"d ", high as u16),
         Reply::Level(high) => put_number(out, at, b"l ", high as u16),
         Reply::DrivenWave => put_bytes(out, at, b"d ", bytes),
         Reply::LevelWave => put_bytes(out, at, b"l ", bytes),
-        Reply::Start(answer) => match answer {
-            fsm::StartAnswer::Started => put_done(out, at, 0),
-            fsm::StartAnswer::Busy => put_done(out, at, 7),
-            fsm::StartAnswer::BadLength => put_done(out, at, 8),
-        },
-        Reply::Poll(result) => match result {
-            fsm::TxPollResult::Ok => writing::put_text(out, at, b"ok"),
-            fsm::TxPollResult::Collision => writing::put_text(out, at, b"collision"),
-            fsm::TxPollResult::Transmitting => writing::put_text(out, at, b"transmitting"),
-            fsm::TxPollResult::Yielded => writing::put_text(out, at, b"yielded"),
-        },
+        Reply::Poll(result) => put_poll(out, at, result),
         Reply::Event(count, pre) => {
             let at = put_number(out, at, b"event ", count);
             let at = put_number(out, at, b" ", pre as u16);
@@ -77,18 +64,35 @@ pub(crate) fn put(out: &mut Answers, at: usize, answer: Answer) -> usize {
             writing::put_text(out, at, bytes)
         }
         Reply::Sniffed(decode) => put_sniffed(out, at, decode),
-        Reply::Backward(backward) => match backward {
-            rx_decode::BackwardByte::Byte(byte) => put_digits(out, at, b"byte ", byte as u64, 2),
-            rx_decode::BackwardByte::NoByte => writing::put_text(out, at, b"none"),
-        },
+        Reply::Backward(backward) => put_backward(out, at, backward),
         Reply::Encoded(answer) => {
-            let at = match answer {
-                halfbits::EncodeAnswer::Length(length) => put_number(out, at, b"", length as u16),
-                halfbits::EncodeAnswer::BadBitCount => put_done(out, at, 5),
-                halfbits::EncodeAnswer::ShortBuffer => put_done(out, at, 6),
-            };
+            let at = put_length(out, at, answer);
             put_bytes(out, at, b" ", bytes)
         }
+    }
+}
+
+fn put_poll(out: &mut [u8], at: usize, result: fsm::TxPollResult) -> usize {
+    match result {
+        fsm::TxPollResult::Ok => writing::put_text(out, at, b"ok"),
+        fsm::TxPollResult::Collision => writing::put_text(out, at, b"collision"),
+        fsm::TxPollResult::Transmitting => writing::put_text(out, at, b"transmitting"),
+        fsm::TxPollResult::Yielded => writing::put_text(out, at, b"yielded"),
+    }
+}
+
+fn put_backward(out: &mut [u8], at: usize, backward: rx_decode::BackwardByte) -> usize {
+    match backward {
+        rx_decode::BackwardByte::Byte(byte) => put_digits(out, at, b"byte ", byte as u64, 2),
+        rx_decode::BackwardByte::NoByte => writing::put_text(out, at, b"none"),
+    }
+}
+
+fn put_length(out: &mut [u8], at: usize, answer: halfbits::EncodeAnswer) -> usize {
+    match answer {
+        halfbits::EncodeAnswer::Length(length) => put_number(out, at, b"", length as u16),
+        halfbits::EncodeAnswer::BadBitCount => put_done(out, at, 5),
+        halfbits::EncodeAnswer::ShortBuffer => put_done(out, at, 6),
     }
 }
 
@@ -120,12 +124,7 @@ fn put_done(out: &mut [u8], at: usize, number: u8) -> usize {
 
 // `state BUS RX DEB IDLE LOW TXPRE RXPRE BUSY DRIVEN COUNT PRE HEX128`
 fn put_state(out: &mut Answers, at: usize, shown: fsm::DaliBitbangPhy) -> usize {
-    let at = match shown.bus_state() {
-        fsm::BusState::Idle => writing::put_text(out, at, b"state idle"),
-        fsm::BusState::Rx => writing::put_text(out, at, b"state rx"),
-        fsm::BusState::Tx => writing::put_text(out, at, b"state tx"),
-        fsm::BusState::CollisionTx => writing::put_text(out, at, b"state collision"),
-    };
+    let at = put_bus_state(out, at, shown.bus_state());
     let at = match shown.rx_state() {
         fsm::RxState::Empty => writing::put_text(out, at, b" empty"),
         fsm::RxState::Receiving => writing::put_text(out, at, b" receiving"),
@@ -143,6 +142,15 @@ fn put_state(out: &mut Answers, at: usize, shown: fsm::DaliBitbangPhy) -> usize 
     let at = put_number(out, at, b" ", event.pre_idle_ticks as u16);
     let samples = event.samples;
     put_bytes(out, at, b" ", &samples)
+}
+
+fn put_bus_state(out: &mut [u8], at: usize, state: fsm::BusState) -> usize {
+    match state {
+        fsm::BusState::Idle => writing::put_text(out, at, b"state idle"),
+        fsm::BusState::Rx => writing::put_text(out, at, b"state rx"),
+        fsm::BusState::Tx => writing::put_text(out, at, b"state tx"),
+        fsm::BusState::CollisionTx => writing::put_text(out, at, b"state collision"),
+    }
 }
 
 // `LEN PHASE SCORE DATA16`

@@ -13,7 +13,7 @@ use borrow.Author.Tests.{lt-ltb, le-ltb, ltb-true, le-leb, lt-leb, eq-eqb, eqb-t
 use Rattle.laws.specs.Pick.{pick}
 use Rattle.laws.proofs.Below.{below}
 use Rattle.laws.proofs.Picked.{on-true, on-false}
-use Rattle.text.specs.declared.hex.HexNumber.the-variants.{Is as a-number, Bad as no-number}
+use Rattle.text.specs.declared.decimals.Number.the-variants.{Is as a-number, Bad as no-number}
 use Rattle.text.specs.Letters.{letter}
 use Rattle.text.specs.Decimals.{isDigit}
 use Rattle.text.specs.Hex.{digitValue, hexDigit, allHex, bytesOf, isHex, filledBy, hexOf, hexesOf, hexValueFrom, hexNumberIn, hexDigitsOf}

@@ -6,7 +6,6 @@ use mathlib.Core.Path.{_≡_, refl}
 use lib.IntN.{pos, negsuc}
 use Rattle.laws.specs.Pick.{pick}
 use Rattle.text.specs.declared.decimals.Number.the-variants.{Is as a-number, Bad as no-number}
-use Rattle.text.specs.declared.hex.HexNumber.the-variants.{Is as a-hex, Bad as no-hex}
 use Rattle.text.specs.declared.signed.Signed.the-variants.{Is as a-signed, Bad as no-signed}
 use Rattle.text.specs.Letters.{word}
 use Rattle.text.specs.Decimals.{isDigit, allDigits, isDecimal, valueFrom, isUpTo, numberIn, decimalIn, decimalOf}
@@ -64,11 +63,11 @@ pub upper-case : filledBy (word "0FF0") (1 ∷ 2 ∷ []) ≡ 1 ∷ 2 ∷ []
 unfolding filledBy isHex allHex bytesOf digitValue isDigit pick
 upper-case = refl
 
-pub hex-read : hexNumberIn 3 (word "1ab") ≡ a-hex 0x1AB
+pub hex-read : hexNumberIn 3 (word "1ab") ≡ a-number 0x1AB
 unfolding hexNumberIn hexValueFrom allHex digitValue isDigit pick
 hex-read = refl
 
-pub hex-short : hexNumberIn 4 (word "1ab") ≡ no-hex
+pub hex-short : hexNumberIn 4 (word "1ab") ≡ no-number
 unfolding hexNumberIn hexValueFrom allHex digitValue isDigit pick
 hex-short = refl
 
@@ -95,5 +94,5 @@ two-bytes (suc (suc i)) = omega arith
 pub bytes-back : filledBy (hexesOf (0x0F ∷ 0xF0 ∷ [])) (1 ∷ 2 ∷ []) ≡ 0x0F ∷ 0xF0 ∷ []
 bytes-back = hex-back (0x0F ∷ 0xF0 ∷ []) (1 ∷ 2 ∷ []) two-bytes refl .1
 
-pub digits-back : hexNumberIn 2 (hexDigitsOf 2 0xAB) ≡ a-hex 0xAB
+pub digits-back : hexNumberIn 2 (hexDigitsOf 2 0xAB) ≡ a-number 0xAB
 digits-back = hex-numbers-back 2 0xAB (omega arith) (omega arith)

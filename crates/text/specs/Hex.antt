@@ -7,8 +7,8 @@ use lib.ListN.{length}
 use Rattle.laws.specs.Pick.{pick}
 use Rattle.text.specs.Letters.{letter}
 use Rattle.text.specs.Decimals.{isDigit}
-use Rattle.text.specs.declared.hex.HexNumber.{HexNumber}
-use Rattle.text.specs.declared.hex.HexNumber.the-variants.{Is as a-number, Bad as no-number}
+use Rattle.text.specs.declared.decimals.Number.{Number}
+use Rattle.text.specs.declared.decimals.Number.the-variants.{Is as a-number, Bad as no-number}
 
 -- ---- a digit
 -- the value of a digit, 0 to 9 and a to f; 16 for any other byte
@@ -55,7 +55,7 @@ hexValueFrom n [] = n
 hexValueFrom n (digit ∷ digits) = hexValueFrom (n * 16 + digitValue digit) digits
 
 -- just so many digits, sixteen at most: a number has no more than 64 bits
-unfoldable pub hexNumberIn : ℕ → List ℕ → HexNumber
+unfoldable pub hexNumberIn : ℕ → List ℕ → Number
 hexNumberIn width field =
     pick (leb width 16 && eqb (length field) width && allHex field) (a-number (hexValueFrom 0 field)) no-number
 

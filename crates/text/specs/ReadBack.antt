@@ -14,7 +14,6 @@ use Rattle.text.specs.Hex.{isHex, filledBy, hexesOf, hexNumberIn, hexDig
 use Rattle.text.specs.declared.decimals.Number.the-variants.{Is as a-number}
 use Rattle.text.specs.declared.decimals.Byte.the-variants.{Is as a-byte}
 use Rattle.text.specs.declared.signed.Signed.the-variants.{Is as a-signed}
-use Rattle.text.specs.declared.hex.HexNumber.the-variants.{Is as a-hex}
 
 -- no byte of a text is the mark
 abbrev pub Without : ℕ → List ℕ → Type 0
@@ -51,4 +50,4 @@ HexBack =
     → (isHex (length buffer) (hexesOf bytes) ≡ true) × (filledBy (hexesOf bytes) buffer ≡ bytes)
 
 abbrev pub HexNumbersBack : Type 0
-HexNumbersBack = (width number : ℕ) → width ≤ 16 → number < 16 ^ width → hexNumberIn width (hexDigitsOf width number) ≡ a-hex number
+HexNumbersBack = (width number : ℕ) → width ≤ 16 → number < 16 ^ width → hexNumberIn width (hexDigitsOf width number) ≡ a-number number

@@ -7,8 +7,9 @@ ghost use Rattle.text.specs.Writing.{placePast, bufferWith};
 ghost use Rattle.text.specs.Code.{Put, digits};
 use crate::writing;
 
+// A number that a field stands for, in decimal or in hex.
 pub enum Number {
-    Is(u32),
+    Is(u64),
     Bad,
 }
 
@@ -60,7 +61,7 @@ pub fn read_number(field: &[u8], most: u32) -> Number
         }
         i += 1;
     }
-    Number::Is(number as u32)
+    Number::Is(number)
 }
 
 // A number of at most `most`, which a byte holds.

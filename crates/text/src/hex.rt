@@ -6,12 +6,8 @@ ghost use lib.ListN.{length};
 ghost use Rattle.text.specs.Hex.{digitValue, hexDigit, allHex, bytesOf, isHex, filledBy, hexesOf, hexNumberIn, hexDigitsOf};
 ghost use Rattle.text.specs.Writing.{placePast, bufferWith};
 use crate::decimals;
+use crate::decimals::Number;
 use crate::writing;
-
-pub enum HexNumber {
-    Is(u64),
-    Bad,
-}
 
 // The value of a digit, and 16 for any other byte.
 fn digit_value(byte: u8) -> u8
@@ -82,26 +78,26 @@ pub fn read_hex(field: &[u8], bytes: &mut [u8]) -> bool
 }
 
 // A number of just `width` digits, sixteen at most.
-pub fn read_hex_number(field: &[u8], width: usize) -> HexNumber
+pub fn read_hex_number(field: &[u8], width: usize) -> Number
     ensures { λ r. ⌜ r ≡ hexNumberIn width (now (field .entry)) ⌝ }
 {
     if 16 < width {
-        return HexNumber::Bad;
+        return Number::Bad;
     }
     if field.len() != width {
-        return HexNumber::Bad;
+        return Number::Bad;
     }
     let mut number: u64 = 0;
     let mut i = 0;
     while i < width {
         let digit = digit_value(field[i]);
         if 15 < digit {
-            return HexNumber::Bad;
+            return Number::Bad;
         }
         number = number * 16 + digit as u64;
         i += 1;
     }
-    HexNumber::Is(number)
+    Number::Is(number)
 }
 
 fn hex_digit(value: u8) -> u8

@@ -5,10 +5,10 @@ use Rattle.calls.proofs.main.Statement.{statement}
 use Rattle.calls.proofs.main.Tie as tie
 
 abbrev Inv-loop : tie.InvT-loop
-Inv-loop chunk₀ line₀ out₀ session₀ number₀ chunk line out session number = number ≤ 18446744073709551615
+Inv-loop chunk₀ line₀ out₀ session₀ reads₀ chunk line out session reads = reads ≤ 18446744073709551615
 
 abbrev μ-loop : tie.MeasureT-loop
-μ-loop chunk₀ line₀ out₀ session₀ number₀ chunk line out session number = 18446744073709551615 - number
+μ-loop chunk₀ line₀ out₀ session₀ reads₀ chunk line out session reads = 18446744073709551615 - reads
 
 new-requires : tie.Need-new-requires Inv-loop μ-loop
 new-requires c κs = search needs
@@ -22,8 +22,8 @@ turn-requires c κs = search needs
 returns : tie.Need-returns Inv-loop μ-loop
 returns c = search needs
 
-add-number : tie.Need-add-number Inv-loop μ-loop
-add-number c = search needs
+add-reads : tie.Need-add-reads Inv-loop μ-loop
+add-reads c = search needs
 
 loop-less : tie.Need-loop-less Inv-loop μ-loop
 loop-less c = search needs
@@ -44,7 +44,7 @@ main-spec =
     loop-holds
     turn-requires
     returns
-    add-number
+    add-reads
     loop-less
     loop-again
     returns-2)

@@ -76,9 +76,6 @@ loop-again c =
       sym (digits-on field (at .i) here digit) ∙ at .inv .3,
     )
 
-cast-t16 : tie.Need-cast-t16 Inv-loop μ-loop
-cast-t16 c = search needs
-
 returns-4 : tie.Need-returns-4 Inv-loop μ-loop
 returns-4 c =
     let at = c .before .loop in
@@ -107,5 +104,4 @@ read-number-spec =
     add-i
     loop-less
     loop-again
-    cast-t16
     returns-4)
