@@ -6,6 +6,7 @@ use Rattle.text.specs.Fields.{joinedBy}
 use Rattle.text.specs.Decimals.{decimalOf}
 use Rattle.text.specs.Signed.{signedOf}
 use Rattle.text.specs.Hex.{hexesOf}
+use Rattle.event.specs.Constants.{tickUs}
 use Rattle.rx_decode.specs.declared.SniffedFrame.{SniffedFrame}
 use Rattle.rx_decode.specs.declared.SniffedFrame.the-variants.{Forward16, Backward8, Forward24, UnsupportedLength, DecodeFailed}
 use Rattle.bench_text.specs.declared.Capture.{Capture}
@@ -35,9 +36,8 @@ dataText DecodeFailed = word "-"
 abbrev pub lineText : List (List ℕ) → List ℕ
 lineText fields = joinedBy tab fields ++ (lf ∷ [])
 
--- a tick is 104 microseconds
 abbrev pub microseconds : ℕ → ℕ
-microseconds ticks = ticks * 104
+microseconds ticks = ticks * tickUs
 
 -- number, kind, data, phase, score, longest low run in ticks, silence in microseconds
 unfoldable pub rowText : ℕ → Capture → Reading → List ℕ

@@ -10,7 +10,7 @@ use bench_reading::Reading;
 use bench_text::Capture;
 use bench_text::Refusal;
 use bench_text::refusal_number;
-use fsm::PHY_TICK_US;
+use event::PHY_TICK_US;
 use rx_decode::SniffedFrame;
 use text::decimals;
 use text::hex;

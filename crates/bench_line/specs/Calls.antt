@@ -2,12 +2,13 @@
 -- Assumes nothing.
 use Prim.Native.Nat.{ℕ}
 use Rattle.laws.specs.Pick.{pick}
+use Rattle.event.specs.Event.{newEvent}
 use Rattle.fsm.specs.declared.DaliBitbangPhy.{DaliBitbangPhy}
 use Rattle.fsm.specs.declared.Started.{Started}
 use Rattle.fsm.specs.declared.Polled.{Polled}
 use Rattle.fsm.specs.declared.TookIdle.{TookIdle}
 use Rattle.fsm.specs.declared.TookRx.{TookRx}
-use Rattle.fsm.specs.Station.{newEvent, newStation}
+use Rattle.fsm.specs.Station.{newStation}
 use Rattle.bench_line.specs.declared.BenchLine.{BenchLine}
 use Rattle.bench_line.specs.declared.MadeLine.{MadeLine}
 use Rattle.bench_line.specs.declared.LineNew.the-variants as made

@@ -8,8 +8,8 @@ use Rattle.search.specs.declared.BestPhaseSearch.{BestPhaseSearch}
 use Rattle.search.specs.declared.Found.{Found}
 use Rattle.search.specs.declared.SearchAnswer.{SearchAnswer}
 use Rattle.search.specs.Search.{newOf, runOf}
-use Rattle.fsm.specs.declared.RxCompletedEvent.{RxCompletedEvent}
-use Rattle.fsm.specs.Station.{eventOf}
+use Rattle.event.specs.declared.RxCompletedEvent.{RxCompletedEvent}
+use Rattle.event.specs.Event.{eventOf}
 use Rattle.rx_decode.specs.declared.SniffedDecode.{SniffedDecode}
 use Rattle.rx_decode.specs.Reading.{searchedIn, foundOr, foundIn, sniffedOf, ticksOf, lowRunOf}
 use Rattle.bench_text.specs.declared.Capture.{Capture}

@@ -1,21 +1,22 @@
 -- What the private function promises. No public promise cites this file. Assumes nothing.
-use mathlib.Core.Bool.{false}
 use Rattle.search.specs.declared.Found.{Found}
-use Rattle.search.specs.declared.IsrDecode.the-variants.{Decoded}
-use Rattle.fsm.specs.declared.RxCompletedEvent.{RxCompletedEvent}
+use Rattle.event.specs.declared.IsrDecode.the-variants.{Decoded}
+use Rattle.event.specs.declared.RxCompletedEvent.{RxCompletedEvent}
 use Rattle.bench_text.specs.declared.Capture.{Capture}
+use Rattle.bench_reading.specs.Reading.{eventFor}
 
--- the event of a capture, which holds what a finished search found
+-- the event of a capture, but that it holds what a finished search found
 unfoldable pub heldEvent : Capture → Found → RxCompletedEvent
 heldEvent capture found =
+    let event = eventFor capture in
     record {
-      samples = capture .samples;
-      «sample_count» = capture .count;
-      «pre_idle_ticks» = capture .silence;
-      «rx_epoch» = 0;
-      «rx_tick» = 0;
-      «max_sample_gap_us» = 0;
-      «timing_degraded» = false;
-      «sniff_seq» = 0;
+      samples = event .samples;
+      «sample_count» = event .«sample_count»;
+      «pre_idle_ticks» = event .«pre_idle_ticks»;
+      «rx_epoch» = event .«rx_epoch»;
+      «rx_tick» = event .«rx_tick»;
+      «max_sample_gap_us» = event .«max_sample_gap_us»;
+      «timing_degraded» = event .«timing_degraded»;
+      «sniff_seq» = event .«sniff_seq»;
       «isr_decode» = Decoded found;
     }

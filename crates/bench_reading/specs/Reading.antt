@@ -4,17 +4,17 @@ use Rattle.lengths.specs.Lengths.{sniffedLengths}
 use Rattle.window.specs.Window.{windowOf}
 use Rattle.search.specs.declared.SearchAnswer.{SearchAnswer}
 use Rattle.search.specs.Search.{newOf, runOf}
-use Rattle.fsm.specs.declared.RxCompletedEvent.{RxCompletedEvent}
-use Rattle.fsm.specs.Station.{lastRxOf, eventOf}
+use Rattle.event.specs.declared.RxCompletedEvent.{RxCompletedEvent}
+use Rattle.event.specs.Event.{eventOf}
 use Rattle.rx_decode.specs.declared.SniffedFrame.{SniffedFrame}
 use Rattle.rx_decode.specs.declared.SniffedFrame.the-variants.{Forward16, Backward8, Forward24, UnsupportedLength, DecodeFailed}
 use Rattle.rx_decode.specs.Reading.{foundIn, sniffedOf, lowRunOf}
 use Rattle.bench_text.specs.declared.Capture.{Capture}
 use Rattle.bench_reading.specs.declared.Reading.{Reading}
 
--- the capture as a station hands it out: samples, their count and the silence before them
+-- the event of the capture: samples, their count and the silence before them
 unfoldable pub eventFor : Capture → RxCompletedEvent
-eventFor capture = eventOf (lastRxOf (capture .samples) (capture .count) (capture .silence) 0)
+eventFor capture = eventOf (capture .samples) (capture .count) (capture .silence)
 
 -- the search for 8, 16 and 24 bits
 unfoldable pub searchOf : Capture → SearchAnswer

@@ -3,13 +3,13 @@ ghost use mathlib.Core.Path.{_≡_};
 ghost use Rattle.bench_reading.specs.Reading.{readingOf, isDecoded};
 ghost use Rattle.bench_reading.specs.Code.{heldEvent};
 use bench_text::Capture;
-use fsm::RxCompletedEvent;
+use event::IsrDecode;
+use event::RxCompletedEvent;
 use lengths::SNIFFED_BIT_LENGTHS;
 use rx_decode::SniffedDecode;
 use rx_decode::SniffedFrame;
 use search::BestPhaseSearch;
 use search::Found;
-use search::IsrDecode;
 use window::SampleWindow;
 
 pub struct Reading {
@@ -39,18 +39,19 @@ pub fn read_capture(capture: Capture) -> Reading
 fn event_with(capture: Capture, found: Found) -> RxCompletedEvent
     ensures { λ r. ⌜ r ≡ heldEvent capture found ⌝ }
 {
-    let new = RxCompletedEvent::new();
-    let samples = capture.samples;
+    let captured = capture.samples;
     let count = capture.count as u16;
+    let event = RxCompletedEvent::of_capture(captured, count, capture.silence);
+    let samples = event.samples;
     RxCompletedEvent {
         samples,
-        sample_count: count,
-        pre_idle_ticks: capture.silence,
-        rx_epoch: new.rx_epoch,
-        rx_tick: new.rx_tick,
-        max_sample_gap_us: new.max_sample_gap_us,
-        timing_degraded: new.timing_degraded,
-        sniff_seq: new.sniff_seq,
+        sample_count: event.sample_count,
+        pre_idle_ticks: event.pre_idle_ticks,
+        rx_epoch: event.rx_epoch,
+        rx_tick: event.rx_tick,
+        max_sample_gap_us: event.max_sample_gap_us,
+        timing_degraded: event.timing_degraded,
+        sniff_seq: event.sniff_seq,
         isr_decode: IsrDecode::Decoded(found),
     }
 }

@@ -25,6 +25,7 @@ use Rattle.window.specs.Window.{windowOf, tickAt, peekAt}
 use Rattle.window.specs.Phase.{bits, after, phaseOf, bitsFrom, weightAround, strideAround, strideOf, lengthOf, scoreOf, decodeOf}
 use Rattle.window.specs.Phase as phase
 use Rattle.search.specs.Search.{acceptedOf, firstOf, endedOf, scannedOf, keptOf, stepOf, firstDone, runOf}
+use Rattle.event.specs.Event.{eventOf}
 use Rattle.machine.specs.declared.RxState.the-variants.{Empty}
 use Rattle.machine.specs.Runs.{heardOf}
 use Rattle.machine.specs.BecomingIdle.{idled}
@@ -32,7 +33,7 @@ use Rattle.machine.specs.Idle.{entered, idleTick}
 use Rattle.machine.specs.Sampling.{highRun, sampled, finished, rxTick}
 use Rattle.machine.specs.Acting as machine
 use Rattle.fsm.specs.declared.DaliBitbangPhy.{DaliBitbangPhy}
-use Rattle.fsm.specs.Station.{eventOf, newCore, newStation}
+use Rattle.fsm.specs.Station.{newCore, newStation}
 use Rattle.fsm.specs.Receiving.{filled, finishedRx, storedRx}
 use Rattle.fsm.specs.Ticking.{isRx, actOf, tickOf}
 use Rattle.fsm.specs.Calls.{tookRx}

@@ -15,9 +15,10 @@ use Rattle.window.specs.Window.{windowOf}
 use Rattle.window.specs.Phase.{phaseOf}
 use Rattle.search.specs.declared.Found.the-variants.{Nothing}
 use Rattle.search.specs.Search.{newOf, runOf}
+use Rattle.event.specs.declared.RxCompletedEvent.{RxCompletedEvent}
+use Rattle.event.specs.Event.{eventOf}
 use Rattle.fsm.specs.declared.DaliBitbangPhy.{DaliBitbangPhy}
-use Rattle.fsm.specs.declared.RxCompletedEvent.{RxCompletedEvent}
-use Rattle.fsm.specs.Station.{lastRxOf, eventOf, newStation}
+use Rattle.fsm.specs.Station.{newStation}
 use Rattle.fsm.specs.Calls.{tookRx}
 use Rattle.rx_decode.specs.Reading.{sniffedOf, foundIn, lowRunOf, heldOf}
 use Rattle.bench_line.specs.Line.{newLine}
@@ -33,7 +34,7 @@ hearing levels highs = heard (length levels + highs) (λ tick. getD levels tick 
 
 -- The event of a capture of these bytes, with anything behind them in the store.
 abbrev pub eventWith : List ℕ → List ℕ → RxCompletedEvent
-eventWith bytes behind = eventOf (lastRxOf (bytes ++ behind) (length bytes) 0 0)
+eventWith bytes behind = eventOf (bytes ++ behind) (length bytes) 0
 
 -- ---- the kinds of rows
 pub data Row : Type 0 where

@@ -2,9 +2,9 @@
 // whole table, these rows among it, is proved (specs/Table.antt).
 use bench_line::BenchLine;
 use bench_line::LineTold;
+use event::RxCompletedEvent;
 use fsm::BusState;
 use fsm::DaliBitbangPhy;
-use fsm::RxCompletedEvent;
 use halfbits::HalfBitBuffer;
 use libc::STDOUT_FILENO;
 

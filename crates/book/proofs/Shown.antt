@@ -9,7 +9,7 @@ use Rattle.weight.specs.Weight.{weightOf, folded, halfWeight, bitWeight}
 use Rattle.window.specs.Window.{windowOf, tickAt, levelBefore, peekAt}
 use Rattle.window.specs.Phase.{phaseOf, bitsOf, bitsFrom, weightAround, strideAround, strideOf, lengthOf, scoreOf, dataOf, decodeOf}
 use Rattle.search.specs.Search.{acceptedOf, firstOf, endedOf, scannedOf, scanPhase, keptOf, betterOf, higherOf, stepOf, firstDone, runOf}
-use Rattle.fsm.specs.Station.{eventOf}
+use Rattle.event.specs.Event.{eventOf}
 use Rattle.rx_decode.specs.Reading.{byteOf, frameOf, sniffedOf, searchedIn, foundOr, ticksOf, lowsFirst, longestLow}
 use Rattle.text.specs.Letters.{word}
 use Rattle.text.specs.Fields.{grow, partedAt, joinedBy}

@@ -5,8 +5,8 @@ use crate::operands::Bytes;
 use crate::operands::Operands;
 use crate::reply::Reply;
 use bench_line::BenchLine;
+use event::RxCompletedEvent;
 use fsm::DaliBitbangPhy;
-use fsm::RxCompletedEvent;
 use search::BestPhaseSearch;
 use search::Found;
 use text::fields;
@@ -273,7 +273,7 @@ fn bsstep(kept: Kept, ops: Operands) -> Answer {
 // A new event that holds a finished search.
 fn sniffed(found: Found) -> Reply {
     let event = RxCompletedEvent {
-        isr_decode: search::IsrDecode::Decoded(found),
+        isr_decode: event::IsrDecode::Decoded(found),
         ..RxCompletedEvent::new()
     };
     Reply::Sniffed(rx_decode::decode_sniffed_with_phase(event))

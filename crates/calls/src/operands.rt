@@ -5,7 +5,7 @@
 //     h m d        a number of 2, 8 or 16 hex digits: a byte, a mask of lengths, a decode's data
 //     p            a collision policy, as its place among the three
 //     f w x        bytes in hex: the 7 of a send, the 64 of a capture, or any number of them, `-` for none
-use fsm::RxCompletedEvent;
+use event::RxCompletedEvent;
 use halfbits::HalfBitBuffer;
 use lengths::BitLengths;
 use text::decimals;

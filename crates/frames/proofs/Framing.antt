@@ -13,14 +13,14 @@ use Rattle.window.specs.declared.PhaseDecode.{PhaseDecode}
 use Rattle.window.specs.Phase.{bits, decodeOf}
 use Rattle.search.specs.declared.SearchAnswer.{SearchAnswer}
 use Rattle.search.specs.declared.Found.the-variants.{Decode}
-use Rattle.search.specs.declared.IsrDecode.the-variants.{NotDecoded}
+use Rattle.event.specs.declared.IsrDecode.the-variants.{NotDecoded}
+use Rattle.event.specs.declared.RxCompletedEvent.{RxCompletedEvent}
+use Rattle.event.specs.Event.{eventOf, newEvent}
 use Rattle.halfbits.specs.Frame.{Frame, bits-8, bits-16, bits-24, bytesOf, frameBits, AreBytes}
 use Rattle.halfbits.specs.Wave.{levelAt}
 use Rattle.machine.specs.declared.RxState.{RxState}
 use Rattle.machine.specs.declared.RxState.the-variants.{Empty, Receiving, Completed}
 use Rattle.fsm.specs.declared.DaliBitbangPhy.{DaliBitbangPhy}
-use Rattle.fsm.specs.declared.RxCompletedEvent.{RxCompletedEvent}
-use Rattle.fsm.specs.Station.{eventOf, newEvent}
 use Rattle.fsm.specs.Calls.{tookRx}
 use Rattle.rx_decode.specs.declared.BackwardByte.the-variants.{Byte}
 use Rattle.rx_decode.specs.Reading.{sniffedOf, foundOr, searchedIn, byteIn}

@@ -17,9 +17,9 @@ use Rattle.search.specs.declared.Found.the-variants.{Decode}
 use Rattle.search.specs.Search.{newOf, runOf, acceptedOf}
 use Rattle.search.specs.Steps.{searchOf}
 use Rattle.search.proofs.Runs.{run-of-new}
+use Rattle.event.specs.Event.{eventOf}
 use Rattle.halfbits.specs.Wave.{high, levelAt}
 use Rattle.fsm.specs.declared.DaliBitbangPhy.{DaliBitbangPhy}
-use Rattle.fsm.specs.Station.{eventOf}
 use Rattle.fsm.specs.Calls.{tookRx}
 use Rattle.frames.specs.ReadAs.{FitsCapture, taken, IsReady, windowIn, cleanWeights, frameWeights, ReadAtPhase0, FoundInOneStep, HasBits}
 use Rattle.frames.specs.WaveToFrame.{WaveToBits}

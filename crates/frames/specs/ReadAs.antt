@@ -12,10 +12,10 @@ use Rattle.window.specs.Window.{windowOf}
 use Rattle.window.specs.Phase.{bits, bitsOf, scoreOf, decodeOf}
 use Rattle.search.specs.declared.Found.the-variants.{Decode}
 use Rattle.search.specs.Search.{newOf, runOf}
+use Rattle.event.specs.declared.RxCompletedEvent.{RxCompletedEvent}
 use Rattle.halfbits.specs.Frame.{Frame, bits-8, bits-16, bits-24, frameBits}
 use Rattle.halfbits.specs.Wave.{levelAt}
 use Rattle.fsm.specs.declared.DaliBitbangPhy.{DaliBitbangPhy}
-use Rattle.fsm.specs.declared.RxCompletedEvent.{RxCompletedEvent}
 use Rattle.fsm.specs.Calls.{tookRx}
 use Rattle.rx_decode.specs.declared.SniffedFrame.{SniffedFrame}
 use Rattle.rx_decode.specs.declared.SniffedFrame.the-variants.{Forward16, Backward8, Forward24}

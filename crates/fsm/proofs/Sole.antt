@@ -3,7 +3,6 @@
 use Rattle.laws.proofs.Only.{Only, named, named-and}
 use Rattle.fsm.proofs.settle_ticks_on_wire.Reads as settle-ticks-on-wire
 use Rattle.fsm.proofs.restart_gate_for.Reads as restart-gate-for
-use Rattle.fsm.proofs.RxCompletedEvent.new.Reads as new-event
 use Rattle.fsm.proofs.DaliBitbangPhy.new.Reads as new-station
 use Rattle.fsm.proofs.DaliBitbangPhy.set_collision_policy.Reads as set-collision-policy
 use Rattle.fsm.proofs.DaliBitbangPhy.tick.Reads as tick
@@ -29,9 +28,6 @@ settle-ticks-on-wire-sole κs a x = named _
 
 pub restart-gate-for-sole : (κs : _) (a : _) (x : _) → Only (λ r. restart-gate-for.Post κs a r x)
 restart-gate-for-sole κs a x = named _
-
-pub new-event-sole : (κs : _) (a : _) (x : _) → Only (λ r. new-event.Post κs a r x)
-new-event-sole κs a x = named _
 
 pub new-station-sole : (κs : _) (a : _) (x : _) → Only (λ r. new-station.Post κs a r x)
 new-station-sole κs a x = named _

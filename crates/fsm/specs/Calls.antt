@@ -1,11 +1,12 @@
 -- The other calls of a station that change it. Assumes nothing.
 use mathlib.Core.Bool.{true, false}
+use Rattle.event.specs.Event.{newEvent}
 use Rattle.machine.specs.Groups.{withTold, telling, received}
 use Rattle.machine.specs.declared.RxState.{RxState}
 use Rattle.machine.specs.declared.RxState.the-variants.{Empty, Receiving, Completed}
 use Rattle.machine.specs.declared.CollisionPolicy.{CollisionPolicy}
 use Rattle.machine.specs.declared.Core.{Core}
-use Rattle.fsm.specs.Station.{eventOf, newEvent, withCore}
+use Rattle.fsm.specs.Station.{lastEvent, withCore}
 use Rattle.fsm.specs.declared.DaliBitbangPhy.{DaliBitbangPhy}
 use Rattle.fsm.specs.declared.TookIdle.{TookIdle}
 use Rattle.fsm.specs.declared.TookRx.{TookRx}
@@ -33,4 +34,4 @@ acknowledged Completed s = withCore s (withTold (s .core) (received (s .core) Em
 unfoldable pub tookRx : RxState → DaliBitbangPhy → TookRx
 tookRx Empty s = record { station = s; completed = false; event = newEvent }
 tookRx Receiving s = record { station = s; completed = false; event = newEvent }
-tookRx Completed s = record { station = acknowledged Completed s; completed = true; event = eventOf (s .«last_rx») }
+tookRx Completed s = record { station = acknowledged Completed s; completed = true; event = lastEvent s }

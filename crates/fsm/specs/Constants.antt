@@ -1,6 +1,6 @@
--- The public constants that source document 000 has beside machine's. Assumes nothing.
+-- The public constant that source document 000 has beside machine's and event's. Assumes nothing.
 use Rattle.fsm.specs.declared.PublicConstants.{PublicConstants}
 
--- A line that is low for 24 ticks is held; a capture has room for 64 bytes.
+-- a station has room for 64 bytes of a capture
 abbrev pub publicConstants : PublicConstants
-publicConstants = record { «line_held_ticks» = 24; «max_samples» = 64; «rx_buf_size» = 64 }
+publicConstants = record { «rx_buf_size» = 64 }

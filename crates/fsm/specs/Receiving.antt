@@ -19,7 +19,7 @@ filled bytes r high = pick (eighth r) (set bytes (min (r .«rx_pos») 63) (shift
 unfoldable pub finishedRx : DaliBitbangPhy → Core → Rx → List ℕ → DaliBitbangPhy
 finishedRx s c r bytes =
     let whole = set bytes (r .«rx_pos») 255 in
-    stationOf c whole (s .«tx_hb») (lastRxOf whole (c .rx .«rx_pos») (c .rx .«rx_pre_idle») (s .«last_rx» .«rx_epoch»))
+    stationOf c whole (s .«tx_hb») (lastRxOf whole (c .rx .«rx_pos») (c .rx .«rx_pre_idle»))
 
 -- An Rx tick of a station whose core has heard the level.
 unfoldable pub storedRx : DaliBitbangPhy → Core → Bool → DaliBitbangPhy

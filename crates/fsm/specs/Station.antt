@@ -1,40 +1,27 @@
--- A new station and a fresh event. Assumes nothing.
+-- A new station, and the event that a station hands out. Assumes nothing.
 use Prim.Native.Nat.{ℕ}
 use mathlib.Core.Bool.{true, false}
 use mathlib.Core.List.{List}
 use lib.ListN.{replicate}
-use Rattle.search.specs.declared.IsrDecode.the-variants.{NotDecoded}
+use Rattle.event.specs.declared.RxCompletedEvent.{RxCompletedEvent}
+use Rattle.event.specs.Event.{eventOf}
 use Rattle.machine.specs.declared.BusState.the-variants.{Idle}
 use Rattle.machine.specs.declared.RxState.the-variants.{Empty}
 use Rattle.machine.specs.declared.CollisionPolicy.the-variants.{Auto}
 use Rattle.machine.specs.declared.Core.{Core}
 use Rattle.machine.specs.declared.TxHb.{TxHb}
-use Rattle.fsm.specs.declared.RxCompletedEvent.{RxCompletedEvent}
 use Rattle.fsm.specs.declared.LastRx.{LastRx}
 use Rattle.fsm.specs.declared.DaliBitbangPhy.{DaliBitbangPhy}
 
-abbrev pub lastRxOf : List ℕ → ℕ → ℕ → ℕ → LastRx
-lastRxOf samples count pre epoch = record { samples = samples; «sample_count» = count; «pre_idle_ticks» = pre; «rx_epoch» = epoch }
-
--- The event that a station hands out. The machine has nothing to say in its other fields, so they are those of a fresh event.
-unfoldable pub eventOf : LastRx → RxCompletedEvent
-eventOf last = record {
-  samples = last .samples;
-  «sample_count» = last .«sample_count»;
-  «pre_idle_ticks» = last .«pre_idle_ticks»;
-  «rx_epoch» = last .«rx_epoch»;
-  «rx_tick» = 0;
-  «max_sample_gap_us» = 0;
-  «timing_degraded» = false;
-  «sniff_seq» = 0;
-  «isr_decode» = NotDecoded;
-}
+abbrev pub lastRxOf : List ℕ → ℕ → ℕ → LastRx
+lastRxOf samples count pre = record { samples = samples; «sample_count» = count; «pre_idle_ticks» = pre }
 
 abbrev pub noCapture : LastRx
-noCapture = lastRxOf (replicate 64 0) 0 0 0
+noCapture = lastRxOf (replicate 64 0) 0 0
 
-unfoldable pub newEvent : RxCompletedEvent
-newEvent = eventOf noCapture
+-- the event of the last capture that was completed
+abbrev pub lastEvent : DaliBitbangPhy → RxCompletedEvent
+lastEvent s = eventOf (s .«last_rx» .samples) (s .«last_rx» .«sample_count») (s .«last_rx» .«pre_idle_ticks»)
 
 unfoldable pub newCore : Core
 newCore = record {

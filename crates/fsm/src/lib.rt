@@ -4,9 +4,10 @@ ghost use mathlib.Core.Bool.{not};
 ghost use Prim.Native.Nat.{_+_, _-_, min};
 ghost use lib.Dec.{eqb};
 ghost use lib.ListN.{set};
+ghost use Rattle.event.specs.Event.{eventOf};
 ghost use Rattle.machine.specs.Sampling.{finished};
 ghost use Rattle.fsm.specs.Constants.{publicConstants};
-ghost use Rattle.fsm.specs.Station.{eventOf, newCore, newEvent, newStation};
+ghost use Rattle.fsm.specs.Station.{lastEvent, newCore, newStation};
 ghost use Rattle.fsm.specs.Receiving.{filled, finishedRx, storedRx};
 ghost use Rattle.fsm.specs.Ticking.{ticked};
 ghost use Rattle.fsm.specs.Refusals.{numberOf, startNumber};
@@ -14,6 +15,10 @@ ghost use Rattle.fsm.specs.Starting.{isIdle, hears, lengthFits, started,
 ghost use Rattle.fsm.specs.Polling.{pollResultNumber, isTx, Says, polled};
 ghost use Rattle.fsm.specs.Calls.{withPolicy, tookIdle, acknowledged, tookRx};
 ghost use Rattle.machine.specs.declared.RxState.the-variants.{Empty, Completed};
+pub use event::DALI_RX_SAMPLE_BUF_LEN;
+pub use event::LINE_HELD_TICKS;
+pub use event::PHY_TICK_US;
+pub use event::RxCompletedEvent;
 use halfbits::HalfBitBuffer;
 use machine::Bus;
 pub use machine::BusState;
@@ -21,7 +26,6 @@ pub use machine::COLLISION_BREAK_TICKS;
 pub use machine::CollisionPolicy;
 use machine::Core;
 use machine::MAX_RX_IDX;
-pub use machine::PHY_TICK_US;
 pub use machine::RX_IDLE_LINE_HIGH_TICKS;
 pub use machine::RX_START_DEBOUNCE_TICKS;
 use machine::Runs;
@@ -32,25 +36,17 @@ pub use machine::TX_HALF_BIT_TICKS;
 use machine::Told;
 use machine::Tx;
 use machine::TxHb;
-use search::IsrDecode;
-pub use window::DALI_RX_SAMPLE_BUF_LEN;
-
-pub const LINE_HELD_TICKS: u16 = 24;
 
 // Nobody calls this: its promise says what each public constant is.
 fn constants() -> PublicConstants
     ensures { λ r. ⌜ r ≡ publicConstants ⌝ }
 {
     PublicConstants {
-        line_held_ticks: LINE_HELD_TICKS,
-        max_samples: RxCompletedEvent::MAX_SAMPLES,
         rx_buf_size: DaliBitbangPhy::RX_BUF_SIZE,
     }
 }
 
 struct PublicConstants {
-    line_held_ticks: u16,
-    max_samples: usize,
     rx_buf_size: usize,
 }
 
@@ -111,63 +107,20 @@ pub fn restart_gate_for(release_to_edge_ticks: u8) -> u8
     0
 }
 
-pub struct RxCompletedEvent {
-    pub samples: [u8; DALI_RX_SAMPLE_BUF_LEN],
-    pub sample_count: u16,
-    pub pre_idle_ticks: u8,
-    pub rx_epoch: u8,
-    pub rx_tick: u32,
-    pub max_sample_gap_us: u32,
-    pub timing_degraded: bool,
-    pub sniff_seq: u32,
-    pub isr_decode: IsrDecode,
-}
-
-impl RxCompletedEvent {
-    pub const MAX_SAMPLES: usize = DALI_RX_SAMPLE_BUF_LEN;
-
-    pub fn new() -> RxCompletedEvent
-        ensures { λ r. ⌜ r ≡ newEvent ⌝ }
-    {
-        RxCompletedEvent {
-            samples: [0; DALI_RX_SAMPLE_BUF_LEN],
-            sample_count: 0,
-            pre_idle_ticks: 0,
-            rx_epoch: 0,
-            rx_tick: 0,
-            max_sample_gap_us: 0,
-            timing_degraded: false,
-            sniff_seq: 0,
-            isr_decode: IsrDecode::NotDecoded,
-        }
-    }
-}
-
-// What a station keeps of its last event: what the machine sets, and one byte more, so that there is no gap. Nothing in the machine changes
-// the event's other fields, and a tick copies the less.
+// What a station keeps of its last event: what the machine sets. Nothing in the machine changes the event's other fields, and a tick copies
+// the less.
 pub struct LastRx {
     samples: [u8; DALI_RX_SAMPLE_BUF_LEN],
     sample_count: u16,
     pre_idle_ticks: u8,
-    rx_epoch: u8,
 }
 
 impl LastRx {
     fn event(self) -> RxCompletedEvent
-        ensures { λ r. ⌜ r ≡ eventOf self ⌝ }
+        ensures { λ r. ⌜ r ≡ eventOf (self .samples) (self .«sample_count») (self .«pre_idle_ticks») ⌝ }
     {
         let samples = self.samples;
-        RxCompletedEvent {
-            samples,
-            sample_count: self.sample_count,
-            pre_idle_ticks: self.pre_idle_ticks,
-            rx_epoch: self.rx_epoch,
-            rx_tick: 0,
-            max_sample_gap_us: 0,
-            timing_degraded: false,
-            sniff_seq: 0,
-            isr_decode: IsrDecode::NotDecoded,
-        }
+        RxCompletedEvent::of_capture(samples, self.sample_count, self.pre_idle_ticks)
     }
 }
 
@@ -356,7 +309,6 @@ impl DaliBitbangPhy {
             samples: [0; DALI_RX_SAMPLE_BUF_LEN],
             sample_count: 0,
             pre_idle_ticks: 0,
-            rx_epoch: 0,
         };
         DaliBitbangPhy {
             core,
@@ -401,12 +353,10 @@ impl DaliBitbangPhy {
         let next = core.finish_rx(rx);
         let counted = next.rx;
         let tx_hb = self.tx_hb;
-        let old = self.last_rx;
         let last_rx = LastRx {
             samples,
             sample_count: counted.rx_pos,
             pre_idle_ticks: counted.rx_pre_idle,
-            rx_epoch: old.rx_epoch,
         };
         DaliBitbangPhy {
             core: next,
@@ -656,7 +606,7 @@ impl DaliBitbangPhy {
     }
 
     pub fn last_rx_event(self) -> RxCompletedEvent
-        ensures { λ r. ⌜ r ≡ eventOf (self .«last_rx») ⌝ }
+        ensures { λ r. ⌜ r ≡ lastEvent self ⌝ }
     {
         let last_rx = self.last_rx;
         last_rx.event()

@@ -7,6 +7,7 @@ use lib.Dec.{eqb}
 use borrow.Author.Tests.{eqb-true}
 use Rattle.laws.specs.Pick.{pick}
 use Rattle.laws.proofs.Picked.{cases}
+use Rattle.event.specs.Event.{eventOf}
 use Rattle.halfbits.specs.Frame.{Frame}
 use Rattle.machine.specs.declared.BusState.{BusState}
 use Rattle.machine.specs.declared.BusState.the-variants as bus
@@ -18,9 +19,9 @@ use Rattle.machine.specs.Runs.{heardOf}
 use Rattle.machine.specs.Idle.{idleTick}
 use Rattle.machine.specs.Acting as machine
 use Rattle.fsm.specs.declared.DaliBitbangPhy.{DaliBitbangPhy}
+use Rattle.fsm.specs.declared.LastRx.{LastRx}
 use Rattle.fsm.specs.declared.Polled.{Polled}
 use Rattle.fsm.specs.declared.TxPollResult.the-variants.{Ok, Collision}
-use Rattle.fsm.specs.Station.{eventOf}
 use Rattle.fsm.specs.Starting.{hears}
 use Rattle.fsm.specs.Ticking.{isRx, actOf, tickOf}
 use Rattle.fsm.specs.Polling.{isTx, polled}
@@ -250,7 +251,7 @@ as-taken : (mark : RxState) (s s′ : DaliBitbangPhy) → s′ .«last_rx» ≡ 
 unfolding tookRx
 as-taken Empty s s′ e = (refl, refl)
 as-taken Receiving s s′ e = (refl, refl)
-as-taken Completed s s′ e = (refl, ap eventOf e)
+as-taken Completed s s′ e = (refl, ap (λ (l : LastRx). eventOf (l .samples) (l .«sample_count») (l .«pre_idle_ticks»)) e)
 
 module _ {frame : Frame} (s : DaliBitbangPhy) where
   same-event : (s′ : DaliBitbangPhy) → s′ .core .told .«rx_state» ≡ s .core .told .«rx_state» → s′ .«last_rx» ≡ s .«last_rx» → Event frame s → Event frame s′

@@ -1,11 +1,10 @@
--- The public constants. A tick is 104 microseconds (document 01, "The wave"); the others are source document 000's. Assumes nothing.
+-- The public constants, which are source document 000's. Assumes nothing.
 use Rattle.machine.specs.declared.PublicConstants.{PublicConstants}
 
 -- the last of 64 slots; a break is 1,200 microseconds, rounded up to ticks
 abbrev pub publicConstants : PublicConstants
 publicConstants = record {
   «max_rx_idx» = 63;
-  «phy_tick_us» = 104;
   «rx_idle_line_high_ticks» = 16;
   «rx_start_debounce_ticks» = 2;
   «tx_half_bit_ticks» = 4;

@@ -14,12 +14,11 @@ ghost use Rattle.machine.specs.Collision.{broke, collisionTick};
 ghost use Rattle.machine.specs.Starting.{loaded};
 ghost use Rattle.machine.specs.Acting.{actOf};
 ghost use Rattle.machine.specs.Storing.{rxStores, storesOf};
+use event::DALI_RX_SAMPLE_BUF_LEN;
+use event::PHY_TICK_US;
 use halfbits::HalfBitBuffer;
-use window::DALI_RX_SAMPLE_BUF_LEN;
 
 pub const MAX_RX_IDX: usize = DALI_RX_SAMPLE_BUF_LEN - 1;
-
-pub const PHY_TICK_US: u32 = 104;
 
 pub const RX_IDLE_LINE_HIGH_TICKS: u8 = 16;
 
@@ -46,7 +45,6 @@ fn constants() -> PublicConstants
 {
     PublicConstants {
         max_rx_idx: MAX_RX_IDX,
-        phy_tick_us: PHY_TICK_US,
         rx_idle_line_high_ticks: RX_IDLE_LINE_HIGH_TICKS,
         rx_start_debounce_ticks: RX_START_DEBOUNCE_TICKS,
         tx_half_bit_ticks: TX_HALF_BIT_TICKS,
@@ -57,7 +55,6 @@ fn constants() -> PublicConstants
 
 struct PublicConstants {
     max_rx_idx: usize,
-    phy_tick_us: u32,
     rx_idle_line_high_ticks: u8,
     rx_start_debounce_ticks: u8,
     tx_half_bit_ticks: u32,

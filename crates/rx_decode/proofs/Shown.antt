@@ -11,14 +11,14 @@ use Rattle.weight.specs.Weight.{weightOf, folded, halfWeight, bitWeight}
 use Rattle.window.specs.Window.{windowOf, tickAt, levelBefore, peekAt}
 use Rattle.window.specs.Phase.{phaseOf, bitsOf, bitsFrom, weightAround, strideAround, strideOf, lengthOf, scoreOf, dataOf, decodeOf}
 use Rattle.search.specs.Search.{acceptedOf, firstOf, endedOf, scannedOf, scanPhase, keptOf, betterOf, higherOf, stepOf, firstDone, runOf}
-use Rattle.fsm.specs.Station.{lastRxOf, eventOf}
-use Rattle.fsm.specs.declared.RxCompletedEvent.{RxCompletedEvent}
+use Rattle.event.specs.Event.{eventOf}
+use Rattle.event.specs.declared.RxCompletedEvent.{RxCompletedEvent}
 use Rattle.rx_decode.specs.declared.SniffedFrame.the-variants.{Backward8}
 use Rattle.rx_decode.specs.Reading.{byteOf, frameOf, sniffedOf, searchedIn, foundOr, foundIn}
 
 -- the event of a capture of these bytes
 abbrev captured : List ℕ → RxCompletedEvent
-captured bytes = eventOf (lastRxOf (bytes ++ replicate (64 - length bytes) 0) (length bytes) 0 0)
+captured bytes = eventOf (bytes ++ replicate (64 - length bytes) 0) (length bytes) 0
 
 -- a clean wave of the nine bits 100000001
 abbrev nineBits : RxCompletedEvent

@@ -11,10 +11,10 @@ use Rattle.lengths.specs.Lengths.{sniffedLengths}
 use Rattle.window.specs.Window.{windowOf, levelOf}
 use Rattle.search.specs.declared.Found.{Found}
 use Rattle.search.specs.declared.Found.the-variants.{Decode, Nothing}
-use Rattle.search.specs.declared.IsrDecode.{IsrDecode}
-use Rattle.search.specs.declared.IsrDecode.the-variants.{NotDecoded, Decoded}
 use Rattle.search.specs.Search.{newOf, runOf}
-use Rattle.fsm.specs.declared.RxCompletedEvent.{RxCompletedEvent}
+use Rattle.event.specs.declared.IsrDecode.{IsrDecode}
+use Rattle.event.specs.declared.IsrDecode.the-variants.{NotDecoded, Decoded}
+use Rattle.event.specs.declared.RxCompletedEvent.{RxCompletedEvent}
 use Rattle.rx_decode.specs.declared.SniffedFrame.{SniffedFrame}
 use Rattle.rx_decode.specs.declared.SniffedFrame.the-variants.{Forward16, Backward8, Forward24, UnsupportedLength, DecodeFailed}
 use Rattle.rx_decode.specs.declared.SniffedDecode.{SniffedDecode}

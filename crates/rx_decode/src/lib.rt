@@ -5,14 +5,14 @@ ghost use Rattle.rx_decode.specs.Reading.{byteOf, frameOf, sniffedOf, se
 ghost use Rattle.rx_decode.specs.Kinds.{Says, SaysByte};
 ghost use Rattle.rx_decode.specs.Code.{afterTick, afterByte};
 ghost use Rattle.lengths.specs.Lengths.{backwardLengths};
-use fsm::LINE_HELD_TICKS;
-use fsm::RxCompletedEvent;
+use event::IsrDecode;
+use event::LINE_HELD_TICKS;
+use event::RxCompletedEvent;
 use lengths::BACKWARD_FRAME_BIT_LENGTHS;
 use lengths::BitLengths;
 use lengths::SNIFFED_BIT_LENGTHS;
 use search::BestPhaseSearch;
 use search::Found;
-use search::IsrDecode;
 use window::SampleWindow;
 
 pub enum SniffedFrame {

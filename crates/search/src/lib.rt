@@ -44,12 +44,6 @@ pub struct SearchAnswer {
     pub steps: u8,
 }
 
-// What an event holds of a search that the interrupt made.
-pub enum IsrDecode {
-    NotDecoded,
-    Decoded(Found),
-}
-
 pub enum PhaseSearch {
     Searching,
     Done(SearchAnswer),

@@ -4,16 +4,15 @@ ghost use Rattle.window.specs.Window.{windowOf};
 ghost use Rattle.window.specs.Phase.{phaseOf};
 ghost use Rattle.search.specs.Search.{newOf, runOf};
 ghost use Rattle.lengths.specs.Lengths.{sniffedLengths};
-ghost use Rattle.fsm.specs.Station.{lastRxOf, eventOf};
+ghost use Rattle.event.specs.Event.{eventOf};
 ghost use Rattle.rx_decode.specs.Reading.{sniffedOf, foundIn};
 ghost use Rattle.timed.specs.Digest.{digestOf, answerOf, frameDigest, sniffedDigest};
-use fsm::RxCompletedEvent;
+use event::RxCompletedEvent;
 use lengths::SNIFFED_BIT_LENGTHS;
 use rx_decode::SniffedDecode;
 use rx_decode::SniffedFrame;
 use search::BestPhaseSearch;
 use search::Found;
-use search::IsrDecode;
 use window::DALI_RX_SAMPLE_BUF_LEN;
 use window::PhaseDecode;
 use window::SampleWindow;
@@ -78,19 +77,9 @@ fn sniffed_digest(decode: SniffedDecode) -> u64
 // An event can't be handed over, since it holds an enum: it is made of its capture here, and the time for that counts.
 #[no_mangle]
 pub extern "C" fn timed_sniffed(samples: &[u8; DALI_RX_SAMPLE_BUF_LEN], sample_count: u16) -> u64
-    ensures { λ r. ⌜ r ≡ sniffedDigest (sniffedOf (foundIn (eventOf (lastRxOf (now (samples .entry)) «sample_count» 0 0)))) ⌝ }
+    ensures { λ r. ⌜ r ≡ sniffedDigest (sniffedOf (foundIn (eventOf (now (samples .entry)) «sample_count» 0))) ⌝ }
 {
     let samples = *samples;
-    let ev = RxCompletedEvent {
-        samples,
-        sample_count,
-        pre_idle_ticks: 0,
-        rx_epoch: 0,
-        rx_tick: 0,
-        max_sample_gap_us: 0,
-        timing_degraded: false,
-        sniff_seq: 0,
-        isr_decode: IsrDecode::NotDecoded,
-    };
+    let ev = RxCompletedEvent::of_capture(samples, sample_count, 0);
     sniffed_digest(rx_decode::decode_sniffed_with_phase(ev))
 }

@@ -7,7 +7,7 @@ use lib.ListN.{getD}
 use Rattle.laws.specs.Bit.{bit}
 use Rattle.laws.specs.Pick.{pick}
 use Rattle.halfbits.specs.declared.HalfBitBuffer.{HalfBitBuffer}
-use Rattle.fsm.specs.Station.{eventOf}
+use Rattle.fsm.specs.Station.{lastEvent}
 use Rattle.fsm.specs.Starting.{isIdle, startTx}
 use Rattle.fsm.specs.Ticking.{ticked}
 use Rattle.fsm.specs.declared.DaliBitbangPhy.{DaliBitbangPhy}
@@ -49,7 +49,7 @@ passOf sends s levels = passFrom sends (record { station = s; highs = 0 }) level
 -- keeps it small.
 unfoldable pub summed : ℕ → ℕ → Pass → ℕ
 summed sum left p =
-    let event = eventOf (p .station .«last_rx») in
+    let event = lastEvent (p .station) in
     sum % 4294967296 * 31 + (p .highs + p .station .core .bus .idlecnt + event .«sample_count» * 3 + getD (event .samples) (left % 64) 0)
 
 -- the sum after as many passes as are left, from a station and a sum

@@ -44,7 +44,6 @@ macro_rules! state {
             samples: [u8; SAMPLES],
             sample_count: u16,
             pre_idle_ticks: u8,
-            rx_epoch: u8,
         }
     };
 }
@@ -127,7 +126,6 @@ mod fsm {
                 s.last_rx.samples = state.samples;
                 s.last_rx.sample_count = state.sample_count;
                 s.last_rx.pre_idle_ticks = state.pre_idle_ticks;
-                s.last_rx.rx_epoch = state.rx_epoch;
                 s
             }
 
@@ -145,7 +143,6 @@ mod fsm {
                     samples: s.last_rx.samples,
                     sample_count: s.last_rx.sample_count,
                     pre_idle_ticks: s.last_rx.pre_idle_ticks,
-                    rx_epoch: s.last_rx.rx_epoch,
                 }
             }
         };
@@ -200,17 +197,22 @@ mod port {
         }
     }
 
+    pub mod event {
+        use super::{search, window};
+        include!(concat!(env!("PORT"), "/event.rs"));
+    }
+
     pub mod halfbits {
         include!(concat!(env!("PORT"), "/halfbits.rs"));
     }
 
     pub mod machine {
-        use super::{halfbits, window};
+        use super::{event, halfbits};
         include!(concat!(env!("PORT"), "/machine.rs"));
     }
 
     pub mod fsm {
-        use super::{halfbits, machine, search, window};
+        use super::{event, halfbits, machine};
         include!(concat!(env!("PORT"), "/fsm.rs"));
 
         use crate::State;
@@ -244,7 +246,6 @@ mod port {
                     s.last_rx.samples = state.samples;
                     s.last_rx.sample_count = state.sample_count;
                     s.last_rx.pre_idle_ticks = state.pre_idle_ticks;
-                    s.last_rx.rx_epoch = state.rx_epoch;
                     s
                 }
 
@@ -262,7 +263,6 @@ mod port {
                         samples: s.last_rx.samples,
                         sample_count: s.last_rx.sample_count,
                         pre_idle_ticks: s.last_rx.pre_idle_ticks,
-                        rx_epoch: s.last_rx.rx_epoch,
                     }
                 }
             };
@@ -518,7 +518,6 @@ fn any_state(random: &mut Random) -> State {
         rx_data: std::array::from_fn(|_| random.byte()),
         samples: std::array::from_fn(|_| random.byte()),
         pre_idle_ticks: random.byte(),
-        rx_epoch: random.byte(),
     }
 }
 

@@ -9,7 +9,7 @@ use lib.ListN.{getD}
 use Rattle.laws.specs.Tabulate.{tabulate}
 use Rattle.laws.proofs.Tabulated.{tabulate-same}
 use Rattle.window.specs.Window.{levelOf}
-use Rattle.fsm.specs.declared.RxCompletedEvent.{RxCompletedEvent}
+use Rattle.event.specs.declared.RxCompletedEvent.{RxCompletedEvent}
 use Rattle.rx_decode.specs.declared.LowRuns.{LowRuns}
 use Rattle.rx_decode.specs.Reading.{ticksOf, lowRunOf}
 use Rattle.rx_decode.specs.Code.{lowRuns, afterTicks, levelIn, afterByte}

@@ -1,6 +1,6 @@
 -- `timed_ticks::sum_of` meets its contract. Assumes nothing.
 use borrow.Author.Needs.{needs}
-use Rattle.fsm.specs.Station.{eventOf}
+use Rattle.event.specs.Event.{eventOf}
 use Rattle.timed_ticks.specs.Ticks.{summed}
 use Rattle.timed_ticks.proofs.sum_of.Statement.{statement}
 use Rattle.timed_ticks.proofs.sum_of.Tie as tie

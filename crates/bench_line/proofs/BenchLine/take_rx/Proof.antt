@@ -9,7 +9,7 @@ use Rattle.bench_line.proofs.BenchLine.take_rx.Reads as reads
 use Rattle.bench_line.proofs.BenchLine.take_rx.Lts as lts
 use Rattle.bench_line.proofs.BenchLine.has.Reads as has-reads
 use Rattle.bench_line.proofs.BenchLine.with.Reads as with-reads
-use Rattle.fsm.proofs.RxCompletedEvent.new.Reads as new-reads
+use Rattle.event.proofs.RxCompletedEvent.new.Reads as new-reads
 
 has-requires : tie.Need-has-requires
 has-requires c κs = search needs

@@ -15,7 +15,7 @@ finish-rx-requires c κs = search needs
 
 returns : tie.Need-returns
 unfolding finishedRx
-returns c = simp (← c .before .before .before .finish-rx .ensures, ← c .before .before .before .before .with-byte .ensures)
+returns c = simp (← c .before .before .finish-rx .ensures, ← c .before .before .before .with-byte .ensures)
 
 pub finish-rx-and-notify-spec : {M : Type 1} → statement M
 finish-rx-and-notify-spec =
