@@ -13,7 +13,7 @@ use Rattle.window.proofs.Placing.{rest}
 abbrev byte : ℕ → (ℕ → ℕ) → ℕ → ℕ
 byte n f i = packed 2 (min 8 (n - i * 8)) (λ (j : ℕ). f (i * 8 + j))
 
-bytes-of-bits : (k : ℕ) → 256 ^ k ≡ 2 ^ (k * 8)
+pub bytes-of-bits : (k : ℕ) → 256 ^ k ≡ 2 ^ (k * 8)
 bytes-of-bits zero = refl
 bytes-of-bits (suc k) = rw (pow-suc, bytes-of-bits k, suc-mul, pow-add 2 (k * 8) 8)
 

@@ -1,0 +1,4 @@
+pub mod Kept
+pub mod Sole
+pub mod Words
+pub mod Written

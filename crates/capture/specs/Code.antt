@@ -1,0 +1,9 @@
+-- What a private function promises. No public promise cites this file. Assumes nothing.
+use Prim.Native.Nat.{ℕ, _-_}
+use mathlib.Core.Bool.{Bool}
+use lib.Bits.{bitAnd, bitOr}
+use Rattle.laws.specs.Pick.{pick}
+
+-- a word with some bits in the place of a mask, where a test holds
+unfoldable pub wordWith : ℕ → Bool → ℕ → ℕ → ℕ
+wordWith word hit mask bits = pick hit (bitOr (word - bitAnd word mask) bits) word
