@@ -10,7 +10,8 @@ use Rattle.fsm.specs.declared.Polled.{Polled}
 use Rattle.fsm.specs.declared.TookIdle.{TookIdle}
 use Rattle.fsm.specs.declared.TookRx.{TookRx}
 use Rattle.fsm.specs.Refusals.{numberOf, startNumber}
-use Rattle.fsm.specs.Starting.{isIdle, hears, lengthFits, startTx, startAnswer}
+use Rattle.fsm.specs.Starting.{lengthFits, startTx, startAnswer}
+use Rattle.machine.specs.States.{isIdle, hears}
 use Rattle.fsm.proofs.Numbers.{tx-told, answer-told}
 use Rattle.bench_line.specs.declared.BenchLine.{BenchLine}
 use Rattle.bench_line.specs.declared.MadeLine.{MadeLine}

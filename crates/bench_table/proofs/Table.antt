@@ -25,17 +25,16 @@ use Rattle.window.specs.Window.{windowOf, tickAt, peekAt}
 use Rattle.window.specs.Phase.{bits, after, phaseOf, bitsFrom, weightAround, strideAround, strideOf, lengthOf, scoreOf, decodeOf}
 use Rattle.window.specs.Phase as phase
 use Rattle.search.specs.Search.{acceptedOf, firstOf, endedOf, scannedOf, keptOf, stepOf, firstDone, runOf}
+use Rattle.capture.specs.Samples as capture
 use Rattle.event.specs.Event.{eventOf}
 use Rattle.machine.specs.declared.RxState.the-variants.{Empty}
 use Rattle.machine.specs.Runs.{heardOf}
 use Rattle.machine.specs.BecomingIdle.{idled}
-use Rattle.machine.specs.Idle.{entered, idleTick}
-use Rattle.machine.specs.Sampling.{highRun, sampled, finished, rxTick}
-use Rattle.machine.specs.Acting as machine
+use Rattle.machine.specs.Idle.{entered, idleTick, silent, fell}
+use Rattle.fsm.specs.Rx.{highRun, sampled, filled, finished, notified, wentOn, rxTick}
 use Rattle.fsm.specs.declared.DaliBitbangPhy.{DaliBitbangPhy}
 use Rattle.fsm.specs.Station.{newCore, newStation}
-use Rattle.fsm.specs.Receiving.{filled, finishedRx, storedRx}
-use Rattle.fsm.specs.Ticking.{isRx, actOf, tickOf}
+use Rattle.fsm.specs.Ticking.{actOf, tickOf}
 use Rattle.fsm.specs.Calls.{tookRx}
 use Rattle.rx_decode.specs.Reading.{sniffedOf, searchedIn, foundOr, ticksOf, lowsFirst, longestLow}
 use Rattle.reached.specs.Ticks.{IsIdle, heard}
@@ -58,11 +57,11 @@ abbrev Waits : DaliBitbangPhy → Type 0
 Waits s = IsIdle s × (s .core .told .«rx_state» ≡ Empty)
 
 waits-on : (s : DaliBitbangPhy) → Waits s → Waits (tickOf s true)
-unfolding tickOf actOf isRx machine.actOf idleTick heardOf pick
+unfolding tickOf actOf idleTick silent fell heardOf pick
 waits-on s w = rw (w .0) (refl, w .1)
 
 waits : (highs : ℕ) → Waits (heard (suc highs) (λ tick. getD (low ∷ []) tick high) newStation)
-unfolding heard tickOf actOf isRx machine.actOf idleTick heardOf newStation newCore pick
+unfolding heard tickOf actOf idleTick silent fell heardOf newStation newCore pick
 waits zero = (refl, refl)
 waits (suc n) = waits-on (heard (suc n) (λ tick. getD (low ∷ []) tick high) newStation) (waits n)
 
@@ -102,7 +101,8 @@ _&_ one more = (one, more)
 pub bench-table : BenchTable
 unfolding rows AllSay Says weightOf folded halfWeight bitWeight holds setOf withLengths withLength sniffedLengths
     encodedOf isBitCount frameOf answerOf bufferOf storeOf pulls levelAt waveOf bitWaves bitWave bitsOf bytesOf bitAt
-    heard tickOf actOf isRx machine.actOf idleTick entered rxTick sampled highRun finished idled heardOf storedRx filled finishedRx
+    heard tickOf actOf idleTick silent fell entered rxTick wentOn sampled highRun filled finished notified idled heardOf
+    capture.bytesOf capture.byteIn capture.samplesOf capture.wordIn capture.withByte
     tookRx eventOf newStation newCore
     sniffedOf foundOr searchedIn ticksOf lowsFirst longestLow
     runOf firstDone stepOf firstOf endedOf scannedOf keptOf acceptedOf

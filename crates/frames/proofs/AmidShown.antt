@@ -17,15 +17,13 @@ use Rattle.halfbits.specs.Encoding.{isBitCount, frameOf, encodedOf}
 use Rattle.machine.specs.declared.CollisionPolicy.the-variants.{Auto, Off, On}
 use Rattle.machine.specs.Runs.{heardOf}
 use Rattle.machine.specs.BecomingIdle.{idled}
-use Rattle.machine.specs.Sampling.{highRun, sampled, finished, rxTick}
-use Rattle.machine.specs.Idle.{entered, idleTick}
-use Rattle.machine.specs.Acting as machine
+use Rattle.fsm.specs.Rx.{highRun, sampled, finished, filled, notified, rxTick, wentOn}
+use Rattle.machine.specs.Idle.{entered, idleTick, silent, fell}
 use Rattle.fsm.specs.declared.DaliBitbangPhy.{DaliBitbangPhy}
 use Rattle.fsm.specs.declared.TxPollResult.the-variants.{Ok, Transmitting}
 use Rattle.fsm.specs.Station.{newCore, newStation}
-use Rattle.fsm.specs.Receiving.{filled, finishedRx, storedRx}
-use Rattle.fsm.specs.Ticking.{isRx, actOf, tickOf}
-use Rattle.fsm.specs.Starting.{hears}
+use Rattle.fsm.specs.Ticking.{actOf, tickOf}
+use Rattle.machine.specs.States.{hears}
 use Rattle.fsm.specs.Polling.{polled}
 use Rattle.fsm.specs.Calls.{tookRx}
 use Rattle.reached.specs.Calls.{Call, tick, start-tx, start-answer, poll, take-idle, take-rx, acknowledge, policy, after, afterAll, isBetween, Reached, new, called}
@@ -149,7 +147,7 @@ all-reached [] s reached = reached
 all-reached (c ∷ cs) s reached = all-reached cs (after c s) (called c reached)
 
 holds-noise : let s = afterAll noise newStation in IsIdle s × IsReady s
-unfolding noise times afterAll after newStation newCore tickOf isRx actOf machine.actOf rxTick heardOf idled idleTick entered sampled highRun storedRx filled finishedRx finished tookRx pick
+unfolding noise times afterAll after newStation newCore tickOf actOf heardOf idled idleTick silent fell entered sampled highRun rxTick wentOn filled notified finished tookRx pick
 holds-noise = (refl, refl)
 
 pub hears-after-noise : (hb : HalfBitBuffer) (byte : ℕ) → byte < 256 → Hears hb byte (afterAll noise newStation)

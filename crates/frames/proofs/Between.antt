@@ -1,7 +1,7 @@
 -- What the calls of a host leave as it is, those of a list too: of a station all but its marks and its policy, and of its marks some.
 -- Assumes nothing.
 use Prim.Native.Nat.{ℕ, zero, suc}
-use mathlib.Core.Bool.{Bool, true, false, false≢true}
+use mathlib.Core.Bool.{Bool, true, false, false≢true, not}
 use mathlib.Core.List.{List, [], _∷_}
 use mathlib.Core.Path.{_≡_, refl, _∙_, ap}
 use lib.Dec.{eqb}
@@ -13,8 +13,9 @@ use Rattle.machine.specs.declared.RxState.the-variants.{Empty, Receiving, Compl
 use Rattle.fsm.specs.declared.DaliBitbangPhy.{DaliBitbangPhy}
 use Rattle.fsm.specs.declared.Polled.{Polled}
 use Rattle.fsm.specs.Ticking.{tickOf}
-use Rattle.fsm.specs.Starting.{isIdle, hears, startTx, startAnswer}
-use Rattle.fsm.specs.Polling.{isTx, polled}
+use Rattle.fsm.specs.Starting.{startTx, startAnswer}
+use Rattle.machine.specs.States.{isIdle, hears, isTx}
+use Rattle.fsm.specs.Polling.{polled}
 use Rattle.fsm.specs.Calls.{withPolicy, tookIdle, acknowledged, tookRx}
 use Rattle.reached.specs.Calls.{Call, tick, start-tx, start-answer, poll, take-idle, take-rx, acknowledge, policy, after, afterAll, isBetween}
 use Rattle.reached.specs.Ticks.{IsSending, drives, heard, alone}
@@ -66,7 +67,7 @@ module _ (s : DaliBitbangPhy) where
   polled-mark =
       let P : Polled → Type 0 = λ (x : Polled). markOf (x .station) ≡ markOf s in
       cases P (s .core .told .«tx_yielded») (λ _. refl)
-      (λ _. cases P (eqb (s .core .told .«tx_collision») 0) (λ _. cases P (isTx (s .core .bus .«bus_state»)) (λ _. refl) (λ _. refl)) (λ _. refl))
+      (λ _. cases P (not (eqb (s .core .told .«tx_collision») 0)) (λ _. refl) (λ _. cases P (isTx (s .core .bus .«bus_state»)) (λ _. refl) (λ _. refl)))
 
   same-mark : (c : Call) → keepsCapture c ≡ true → markOf (after c s) ≡ markOf s
   unfolding after keepsCapture tookIdle withPolicy

@@ -11,9 +11,9 @@ use lib.ListN.{length, getD}
 use Rattle.laws.specs.Pick.{pick}
 use Rattle.halfbits.specs.Wave.{high, low, levelAt}
 use Rattle.halfbits.proofs.Levels.{bitOf, first-level}
+use Rattle.capture.specs.Samples.{bytesOf}
 use Rattle.machine.specs.declared.BusState.the-variants as bus
 use Rattle.fsm.specs.declared.DaliBitbangPhy.{DaliBitbangPhy}
-use Rattle.fsm.specs.declared.LastRx.{LastRx}
 use Rattle.fsm.specs.Ticking.{tickOf}
 use Rattle.reached.specs.Calls.{Reached}
 use Rattle.reached.proofs.Holding.{invariants}
@@ -35,8 +35,8 @@ module _ (level : ℕ → Bool) (m : ℕ) {s t : DaliBitbangPhy} (k : Same s t) 
     idle = ap (λ b. b .«bus_state») (k .bus) ∙ h .idle;
     ready = same ∙ h .ready;
     count = ap (λ l. l .«sample_count») (k .last) ∙ h .count;
-    bytes = subst (λ (l : LastRx). Stored level (m / 8) (l .samples)) (sym (k .last)) (h .bytes);
-    end = ap (λ l. getD (l .samples) (m / 8) 0) (k .last) ∙ h .end;
+    bytes = subst (Stored level (m / 8)) (sym (ap (λ l. bytesOf (l .samples)) (k .last))) (h .bytes);
+    end = ap (λ l. getD (bytesOf (l .samples)) (m / 8) 0) (k .last) ∙ h .end;
   }
 
 -- ---- from the second low sample to the sixteenth high one, and on
@@ -114,7 +114,7 @@ module _ (frame : List Bool) (fits : FitsCapture frame) where
   enough : lastLow frame + 17 ≤ 503
   enough = let b = lowIn-bounds (bitOf frame (length frame)) in omega arith
 
-  module _ (host : Host) (lets : LetsHear frame host) (s : DaliBitbangPhy) (idle : IsIdle s) (whole : length (s .«rx_data») ≡ 64) where
+  module _ (host : Host) (lets : LetsHear frame host) (s : DaliBitbangPhy) (idle : IsIdle s) where
     abbrev level : ℕ → Bool
     level = levelAt frame
 
@@ -142,23 +142,23 @@ module _ (frame : List Bool) (fits : FitsCapture frame) where
         (all-kept (host (suc n)) (tickOf (now n) (level n)) (all-between (host (suc n)) each), all-marks (host (suc n)) (tickOf (now n) (level n)) each)
 
     -- ---- the capture
-    -- Idle with so many low ticks remembered, and room for a capture
+    -- Idle with so many low ticks remembered
     abbrev Ready : ℕ → DaliBitbangPhy → Type 0
-    Ready fell t = IsIdle t × (t .core .bus .«rx_debounce» ≡ fell) × (length (t .«rx_data») ≡ 64)
+    Ready fell t = IsIdle t × (t .core .bus .«rx_debounce» ≡ fell)
 
     idles-on : (fell : ℕ) (t u : DaliBitbangPhy) → Same t u → Ready fell t → Ready fell u
-    idles-on fell t u k r = (ap (λ b. b .«bus_state») (k .bus) ∙ r .0, ap (λ b. b .«rx_debounce») (k .bus) ∙ r .1, ap length (k .bytes) ∙ r .2)
+    idles-on fell t u k r = (ap (λ b. b .«bus_state») (k .bus) ∙ r .0, ap (λ b. b .«rx_debounce») (k .bus) ∙ r .1)
 
     -- the wave's second tick starts Rx
     from-quiet : s .core .bus .«rx_debounce» ≡ 0 → (n : ℕ) → lastLow frame + 17 ≤ suc (suc n) → Caught frame (now (suc (suc n)))
     from-quiet quiet n h =
         let first : level 0 ≡ low = starts-low 0 (omega arith) in
         let second : level 1 ≡ low = starts-low 1 (omega arith) in
-        let r = idles-on 0 s (now 0) first-calls (idle, quiet, whole) in
-        let (fell-idle, fell, same) = first-low (now 0) (r .0) (r .1) in
-        let one : Ready 1 (tickOf (now 0) (level 0)) = rw first (fell-idle, fell, ap length same ∙ r .2) in
+        let r = idles-on 0 s (now 0) first-calls (idle, quiet) in
+        let fell = first-low (now 0) (r .0) (r .1) in
+        let one : Ready 1 (tickOf (now 0) (level 0)) = rw first (fell .0, fell .1) in
         let r′ = idles-on 1 (tickOf (now 0) (level 0)) (now 1) second-calls one in
-        let two : Hearing level 2 (tickOf (now 1) (level 1)) = rw second (second-low level (now 1) (r′ .0) (r′ .1) (r′ .2) first second) in
+        let two : Hearing level 2 (tickOf (now 1) (level 1)) = rw second (second-low level (now 1) (r′ .0) (r′ .1) first second) in
         record {
           front = 0;
           few = omega arith;
@@ -173,8 +173,8 @@ module _ (frame : List Bool) (fits : FitsCapture frame) where
     from-debouncing : s .core .bus .«rx_debounce» ≡ 1 → (n : ℕ) → lastLow frame + 17 ≤ suc n → Caught frame (now (suc n))
     from-debouncing fell n h =
         let first : level 0 ≡ low = starts-low 0 (omega arith) in
-        let r = idles-on 1 s (now 0) first-calls (idle, fell, whole) in
-        let two : Hearing (late 1 level) 2 (tickOf (now 0) (level 0)) = rw first (second-low (late 1 level) (now 0) (r .0) (r .1) (r .2) refl first) in
+        let r = idles-on 1 s (now 0) first-calls (idle, fell) in
+        let two : Hearing (late 1 level) 2 (tickOf (now 0) (level 0)) = rw first (second-low (late 1 level) (now 0) (r .0) (r .1) refl first) in
         record {
           front = 1;
           few = omega arith;
@@ -200,4 +200,4 @@ module _ (frame : List Bool) (fits : FitsCapture frame) where
       → Caught frame (heardAmid host ticks (levelAt frame) s)
   catches s reached idle host lets ticks whole =
       let holds = invariants s reached in
-      either-way host lets s idle (holds .data-whole) ticks (long-enough ticks whole (decLt ticks (lastLow frame + 17))) (holds .debounce idle) (decLt (s .core .bus .«rx_debounce») 1)
+      either-way host lets s idle ticks (long-enough ticks whole (decLt ticks (lastLow frame + 17))) (holds .debounce idle) (decLt (s .core .bus .«rx_debounce») 1)

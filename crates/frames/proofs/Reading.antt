@@ -1,4 +1,5 @@
 -- From wave to frame (specs/WaveToFrame, Amid). Assumes nothing.
+use Rattle.reached.specs.OverTicks.{handed}
 use Prim.Native.Nat.{ℕ, suc, _+_, _-_, _*_, _/_, _<_, _≤_}
 use native.Mathlib.Omega.{arith}
 use mathlib.Core.Bool.{Bool, true}
@@ -59,7 +60,7 @@ module _ (frame : List Bool) (fits : FitsCapture frame) (s : DaliBitbangPhy) (ca
   unfolding tookRx
   is-ready = rw (capture .ready)
 
-  window-is : windowIn (taken s) ≡ windowOf (s .«last_rx» .samples) (caught .end / 8 + 1)
+  window-is : windowIn (taken s) ≡ windowOf (handed s) (caught .end / 8 + 1)
   unfolding tookRx eventOf
   window-is = rw (capture .ready, capture .count)
 
@@ -70,7 +71,7 @@ module _ (frame : List Bool) (fits : FitsCapture frame) (s : DaliBitbangPhy) (ca
       ap (late (caught .front) (levelAt frame)) e ∙ late-at (levelAt frame) (caught .front) (suc (lastLow frame) + j) ∙ after-last frame j
 
   abbrev window : SampleWindow
-  window = windowOf (s .«last_rx» .samples) (caught .end / 8 + 1)
+  window = windowOf (handed s) (caught .end / 8 + 1)
 
   small : caught .end / 8 ≤ 62
   small = let b = lowIn-bounds (bitOf frame (length frame)) in omega (arith, caught .ends, caught .few)
@@ -78,7 +79,7 @@ module _ (frame : List Bool) (fits : FitsCapture frame) (s : DaliBitbangPhy) (ca
   shown : (p : ℕ) → p < 8 * window .len → tickAt window p ≡ digit (late (caught .front) (levelAt frame)) p
   unfolding windowOf
   shown p h =
-      shows (late (caught .front) (levelAt frame)) (caught .end / 8) (omega (arith, small)) (s .«last_rx» .samples) (capture .bytes) (capture .end) idle-behind p
+      shows (late (caught .front) (levelAt frame)) (caught .end / 8) (omega (arith, small)) (handed s) (capture .bytes) (capture .end) idle-behind p
       (omega (arith, small))
 
   padded : sampleBits window + 8 ≤ 8 * window .len

@@ -17,6 +17,8 @@ use Rattle.halfbits.specs.HalfBits.{pulls, halfBitsOf, bufferOf}
 use Rattle.halfbits.specs.Encoding.{isBitCount, frameOf, encodedOf}
 use Rattle.halfbits.proofs.Levels.{later-level, half-bits-are-the-wave}
 use Rattle.halfbits.proofs.Encodes.{few, as-many}
+use Rattle.laws.proofs.Joined.{joins}
+use Rattle.machine.specs.Sending.{storeOf as kept}
 use Rattle.machine.specs.declared.BusState.{BusState}
 use Rattle.machine.specs.declared.BusState.the-variants as bus
 use Rattle.machine.specs.declared.CollisionPolicy.{CollisionPolicy}
@@ -24,8 +26,9 @@ use Rattle.machine.specs.Starting.{loaded}
 use Rattle.fsm.specs.declared.DaliBitbangPhy.{DaliBitbangPhy}
 use Rattle.fsm.specs.declared.StartAnswer.the-variants as start
 use Rattle.fsm.specs.declared.TxPollResult.the-variants.{Ok, Transmitting}
-use Rattle.fsm.specs.Starting.{isIdle, hears, lengthFits, startedWith, loadedWith, started, startTx, startAnswer}
-use Rattle.fsm.specs.Polling.{isTx, polled}
+use Rattle.fsm.specs.Starting.{lengthFits, startedWith, loadedWith, started, startTx, startAnswer}
+use Rattle.machine.specs.States.{isIdle, hears, isTx}
+use Rattle.fsm.specs.Polling.{polled}
 use Rattle.reached.specs.Calls.{after, Reached, called}
 use Rattle.reached.specs.Calls as call
 use Rattle.reached.proofs.Holding.{invariants}
@@ -182,7 +185,7 @@ unfolding startedBy isAnswer takenIn startTx startAnswer started lengthFits
 accepted by s hb may some most = go by may
   where
     fits : lengthFits (hb .length) ≡ true
-    fits = on-false (ne-eqb (hb .length) 0 (λ e. omega (arith, e))) _ _ ∙ le-leb (hb .length) 54 most
+    fits = joins (ap not (ne-eqb (hb .length) 0 (λ e. omega (arith, e)))) (le-leb (hb .length) 54 most)
 
     go : (by : Start) → MayStart by s → startedBy by s hb ≡ startedWith (loadedWith s hb (isAnswer by)) start.Started
     go by-start-tx may = let idle : isIdle (s .core .bus .«bus_state») ≡ true = may in on-true idle _ _ ∙ on-true fits _ _
@@ -190,7 +193,7 @@ accepted by s hb may some most = go by may
 
 loaded-sends : (bits : List Bool) (s : DaliBitbangPhy) (answer : Bool) → drives s ≡ high
     → Sender bits (s .core .«collision_policy») 3 0 0 high (loadedWith s (bufferOf bits) answer)
-unfolding loadedWith loaded bufferOf
+unfolding loadedWith loaded bufferOf kept
 loaded-sends bits s answer line = record {
   state = refl;
   store = refl;

@@ -14,16 +14,15 @@ use Rattle.halfbits.specs.HalfBits.{bufferOf}
 use Rattle.halfbits.specs.Encoding.{isBitCount, frameOf, encodedOf}
 use Rattle.machine.specs.declared.BusState.the-variants as bus
 use Rattle.machine.specs.Runs.{heardOf}
-use Rattle.machine.specs.Sampling.{highRun, sampled, rxTick}
-use Rattle.machine.specs.Idle.{entered, idleTick}
-use Rattle.machine.specs.Acting as machine
+use Rattle.fsm.specs.Rx.{highRun, sampled, filled, rxTick, wentOn}
+use Rattle.machine.specs.Idle.{entered, idleTick, silent, fell}
 use Rattle.fsm.specs.declared.DaliBitbangPhy.{DaliBitbangPhy}
 use Rattle.fsm.specs.declared.Started.{Started}
 use Rattle.fsm.specs.declared.StartAnswer.the-variants as start
 use Rattle.fsm.specs.Station.{newCore, newStation}
-use Rattle.fsm.specs.Receiving.{filled, storedRx}
-use Rattle.fsm.specs.Ticking.{isRx, actOf, tickOf}
-use Rattle.fsm.specs.Starting.{isIdle, hears, startTx}
+use Rattle.fsm.specs.Ticking.{actOf, tickOf}
+use Rattle.machine.specs.States.{isIdle, hears}
+use Rattle.fsm.specs.Starting.{startTx}
 use Rattle.reached.specs.Calls.{after, Reached, new, called}
 use Rattle.reached.specs.Calls as call
 use Rattle.reached.specs.Ticks.{drives, IsIdle, IsSending, alone}
@@ -56,7 +55,7 @@ abbrev pub debouncing : DaliBitbangPhy
 debouncing = after (call.tick low) newStation
 
 pub it-debounces : IsIdle debouncing × (debouncing .core .bus .«rx_debounce» ≡ 1)
-unfolding after tickOf actOf isRx pick machine.actOf idleTick heardOf newStation newCore
+unfolding after tickOf actOf pick idleTick silent fell heardOf newStation newCore
 it-debounces = (refl, refl)
 
 -- 16 bits, whatever they are
@@ -70,7 +69,7 @@ abbrev pub receiving : DaliBitbangPhy
 receiving = after (call.tick high) (after (call.tick low) (after (call.tick low) (after (call.tick low) newStation)))
 
 pub it-receives : receiving .core .bus .«bus_state» ≡ bus.Rx
-unfolding after tickOf actOf isRx pick machine.actOf idleTick entered heardOf sampled highRun rxTick storedRx filled newStation newCore
+unfolding after tickOf actOf pick idleTick silent fell entered heardOf sampled highRun rxTick wentOn filled newStation newCore
 it-receives = refl
 
 pub receiving-reached : Reached receiving

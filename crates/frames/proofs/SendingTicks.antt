@@ -1,7 +1,7 @@
 -- What one tick, and the calls of a host, do to a station that sends, or rests, and hears itself alone. Assumes nothing.
-use Prim.Native.Nat.{ℕ, suc, _+_, _-_, _*_, _/_, _%_, _<_}
+use Prim.Native.Nat.{ℕ, suc, _+_, _-_, _*_, _/_, _%_, _^_, _<_}
 use native.Mathlib.Omega.{arith}
-use mathlib.Core.Bool.{Bool, true, false, not}
+use mathlib.Core.Bool.{Bool, true, false, not, _&&_, and-false, _||_}
 use mathlib.Core.List.{List}
 use mathlib.Core.Path.{_≡_, refl, sym, _∙_, ap}
 use lib.Dec.{eqb}
@@ -14,20 +14,19 @@ use Rattle.laws.proofs.Digits.{packed-digit, bit-lt}
 use Rattle.laws.proofs.Picked.{on-true, on-false}
 use Rattle.laws.proofs.Tabulated.{getD-tabulate}
 use Rattle.halfbits.specs.Wave.{high, low, levelAt}
-use Rattle.halfbits.specs.HalfBits.{pulls, storeOf, halfBitsOf}
+use Rattle.halfbits.specs.HalfBits.{pulls, storeOf, halfBitsOf, bufferOf}
 use Rattle.halfbits.proofs.Levels.{not-not}
+use Rattle.laws.proofs.Joined.{and-off}
+use Rattle.machine.proofs.Store.{releases-loaded}
 use Rattle.machine.specs.declared.CollisionPolicy.{CollisionPolicy}
-use Rattle.machine.specs.declared.TxStep.{TxStep}
-use Rattle.machine.specs.declared.TxStep.the-variants.{Arm, End, Hold, Drive}
 use Rattle.machine.specs.declared.Tx.{Tx}
 use Rattle.machine.specs.Runs.{heardOf}
 use Rattle.machine.specs.BecomingIdle.{idled}
-use Rattle.machine.specs.Idle.{idleTick}
-use Rattle.machine.specs.Sending.{clashOf, releasesAt, txStep, armed, held, driven, stepped, txTick}
-use Rattle.machine.specs.Acting as machine
+use Rattle.machine.specs.Idle.{idleTick, silent, fell}
+use Rattle.machine.specs.Sending.{Step, Arm, End, Hold, Drive, clashOf, releasesAt, txStep, armed, held, driven, stepped, txTick, halfBitIn, storeOf as kept, watchesOf}
 use Rattle.fsm.specs.declared.DaliBitbangPhy.{DaliBitbangPhy}
 use Rattle.fsm.specs.Station.{withCore}
-use Rattle.fsm.specs.Ticking.{isRx, actOf, tickOf}
+use Rattle.fsm.specs.Ticking.{actOf, tickOf}
 use Rattle.reached.specs.Ticks.{drives, IsIdle, IsSending}
 use Rattle.reached.specs.Calls.{Call, afterAll, isBetween}
 use Rattle.reached.proofs.Between.{Same}
@@ -41,17 +40,21 @@ is-zero true = refl
 is-zero false = refl
 
 -- what the sender reads there is the level of the wave
-pub read-back : (bits : List Bool) (j : ℕ) → j < 56 → releasesAt (getD (storeOf bits) (j / 8) 0) j ≡ levelAt bits (4 * j)
-unfolding releasesAt storeOf pulls
+pub read-back : (bits : List Bool) (j : ℕ) → j < 56 → eqb (halfBitIn (storeOf bits) j) 0 ≡ levelAt bits (4 * j)
+unfolding storeOf pulls
 read-back bits j h =
     let byte : ℕ → ℕ = λ i. packed 2 8 (λ k. bit (pulls bits (8 * i + k))) in
     let digit : ℕ → ℕ = λ k. bit (pulls bits (8 * (j / 8) + k)) in
     let place : 8 * (j / 8) + j % 8 ≡ j = omega arith in
-    ap (λ x. releasesAt x j) (getD-tabulate 7 (j / 8) byte 0 (omega arith))
+    ap (λ x. eqb (x / 2 ^ (7 - j % 8) % 2) 0) (getD-tabulate 7 (j / 8) byte 0 (omega arith))
     ∙ ap (λ x. eqb x 0) (packed-digit 2 8 (j % 8) (7 - j % 8) digit (omega arith) (λ k. bit-lt (pulls bits (8 * (j / 8) + k))))
     ∙ ap (λ k. eqb (bit (pulls bits k)) 0) place
     ∙ is-zero (pulls bits j)
     ∙ not-not (levelAt bits (4 * j))
+
+pub reads-wave : (bits : List Bool) (j : ℕ) → j < 56 → releasesAt (kept (bufferOf bits)) j ≡ levelAt bits (4 * j)
+unfolding bufferOf
+reads-wave bits j h = releases-loaded (bufferOf bits) j (omega arith) ∙ read-back bits j h
 
 -- ---- a station that sends
 -- a tick of one that hears itself
@@ -62,7 +65,7 @@ next s = tickOf s (drives s)
 -- and this is the level that it drives.
 pub record Sender (bits : List Bool) (policy : CollisionPolicy) (ticks half-bits left : ℕ) (level : Bool) (s : DaliBitbangPhy) : Type 0 where
   pub state : IsSending s
-  pub store : s .«tx_hb» .«tx_hb_data» ≡ storeOf bits
+  pub store : s .«tx_hb» ≡ kept (bufferOf bits)
   pub loads : s .«tx_hb» .«tx_hb_len» ≡ halfBitsOf (length bits)
   pub watch : s .core .«collision_policy» ≡ policy
   pub arms : s .core .tx .«tx_armed» ≡ ticks
@@ -74,22 +77,30 @@ pub record Sender (bits : List Bool) (policy : CollisionPolicy) (ticks half-bits
   pub released : 0 < half-bits → level ≡ high → s .core .tx .«tx_high» ≡ 1
   pub clear : Clear s
 
-abbrev pub ruleOf : DaliBitbangPhy → Bool → TxStep
+abbrev pub ruleOf : DaliBitbangPhy → Bool → Step
 ruleOf s sampled = txStep (s .core .tx) (s .core .«collision_policy») (s .«tx_hb») sampled
 
 abbrev pub clashes : DaliBitbangPhy → Bool → Bool
 clashes s sampled = clashOf (s .core .tx) (s .core .«collision_policy») (s .«tx_hb» .«tx_hb_len») sampled
 
-pub by-rule : (s : DaliBitbangPhy) (sampled : Bool) {rule : TxStep} → IsSending s → ruleOf s sampled ≡ rule
+pub by-rule : (s : DaliBitbangPhy) (sampled : Bool) {rule : Step} → IsSending s → ruleOf s sampled ≡ rule
     → tickOf s sampled ≡ withCore s (stepped rule (heardOf (s .core) sampled))
-unfolding tickOf actOf isRx pick machine.actOf txTick heardOf
+unfolding tickOf actOf pick txTick heardOf
 by-rule s sampled e f = rw (e, f)
+
+-- whatever is sampled on a half-bit that is pulled, it is no clash
+pub pulled-calm : (tx : Tx) (policy : CollisionPolicy) (len : ℕ) (sampled : Bool) → tx .«tx_high» ≡ 0 → clashOf tx policy len sampled ≡ false
+unfolding clashOf
+pulled-calm tx policy len sampled pulled =
+    let unwatched : (watchesOf policy len && not (eqb (tx .«tx_high») 0)) ≡ false
+    = ap (λ b. watchesOf policy len && not b) (eq-eqb (tx .«tx_high») 0 pulled) ∙ and-false (watchesOf policy len) in
+    and-off (and-off unwatched (not sampled)) (eqb (tx .«tx_sp_cnt») 1 || eqb (tx .«tx_sp_cnt») 2)
 
 -- a sender's own level is no clash, whatever the policy
 no-clash : (tx : Tx) (policy : CollisionPolicy) (len : ℕ) (level : Bool) → (level ≡ low → tx .«tx_high» ≡ 0) → clashOf tx policy len level ≡ false
-unfolding clashOf pick
-no-clash tx policy len true pulled = refl
-no-clash tx policy len false pulled = on-true (eq-eqb (tx .«tx_high») 0 (pulled refl)) _ _
+unfolding clashOf
+no-clash tx policy len true pulled = and-off (and-false (watchesOf policy len && not (eqb (tx .«tx_high») 0))) (eqb (tx .«tx_sp_cnt») 1 || eqb (tx .«tx_sp_cnt») 2)
+no-clash tx policy len false pulled = pulled-calm tx policy len false (pulled refl)
 
 some-left : (n : ℕ) → eqb (suc n) 0 ≡ false
 some-left n = ne-eqb (suc n) 0 (λ e. omega (arith, e))
@@ -101,7 +112,7 @@ module _ {bits : List Bool} {policy : CollisionPolicy} where
   pub arm : {ticks : ℕ} {s : DaliBitbangPhy} → Sender bits policy (suc ticks) 0 0 high s → Sender bits policy ticks 0 0 high (next s)
   unfolding stepped armed heardOf txStep
   arm {ticks} {s} a =
-      let rule : ruleOf s (drives s) ≡ Arm = on-false (ap (λ n. eqb n 0) (a .arms) ∙ some-left ticks) _ _ ∙ on-true (a .line) _ _ in
+      let rule : ruleOf s (drives s) ≡ Arm = on-true (ap (λ n. not (eqb n 0)) (a .arms) ∙ ap not (some-left ticks)) _ _ ∙ on-false (and-off (ap not (a .line)) _) _ _ in
       rw (by-rule s (drives s) (a .state) rule)
       (record {
         state = a .state;
@@ -120,19 +131,19 @@ module _ {bits : List Bool} {policy : CollisionPolicy} where
   module _ (fits : FitsBuffer bits) {j : ℕ} (more : j < halfBitsOf (length bits)) {level : Bool} {s : DaliBitbangPhy} (sampled : Bool)
       (none : clashes s sampled ≡ false) where
     -- not armed, not every half-bit is begun, and no clash
-    holds-or-drives : {left : ℕ} → Sender bits policy 0 j left level s → ruleOf s sampled ≡ pick (eqb left 0) (Drive (levelAt bits (4 * j))) Hold
+    holds-or-drives : {left : ℕ} → Sender bits policy 0 j left level s → ruleOf s sampled ≡ pick (not (eqb left 0)) Hold (Drive (levelAt bits (4 * j)))
     unfolding txStep
     holds-or-drives {left} a =
-        let drives-wave = on-false (lt-leb 7 (j / 8) (omega arith)) _ _ ∙ ap Drive (read-back bits j (omega arith)) in
-        on-true (ap (λ n. eqb n 0) (a .arms)) _ _
+        let drives-wave = on-false (lt-leb 56 j (omega arith)) _ _ ∙ ap Drive (ap (λ hb. releasesAt hb j) (a .store) ∙ reads-wave bits j (omega arith)) in
+        on-false (ap (λ n. not (eqb n 0)) (a .arms)) _ _
         ∙ on-false (lt-leb (s .«tx_hb» .«tx_hb_len») (s .core .tx .«tx_hb_cnt») (omega arith)) _ _
         ∙ on-false none _ _
-        ∙ rw (a .spaces, a .begun, a .store) (ap (λ rule. pick (eqb left 0) rule Hold) drives-wave)
+        ∙ rw (a .spaces, a .begun) (ap (λ rule. pick (not (eqb left 0)) Hold rule) drives-wave)
 
     pub hold : {left : ℕ} → Sender bits policy 0 j (suc left) level s → Sender bits policy 0 j left level (tickOf s sampled)
     unfolding stepped held heardOf
     hold {left} a =
-        rw (by-rule s sampled (a .state) (holds-or-drives a ∙ on-false (some-left left) _ _))
+        rw (by-rule s sampled (a .state) (holds-or-drives a ∙ on-true (ap not (some-left left)) _ _))
         (record {
           state = a .state;
           store = a .store;
@@ -150,7 +161,7 @@ module _ {bits : List Bool} {policy : CollisionPolicy} where
     pub drive : Sender bits policy 0 j 0 level s → Sender bits policy 0 (j + 1) 3 (levelAt bits (4 * j)) (tickOf s sampled)
     unfolding stepped driven heardOf
     drive a =
-        rw (by-rule s sampled (a .state) (holds-or-drives a ∙ on-true refl _ _))
+        rw (by-rule s sampled (a .state) (holds-or-drives a ∙ on-false refl _ _))
         (record {
           state = a .state;
           store = a .store;
@@ -175,11 +186,11 @@ pub finish : {bits : List Bool} {policy : CollisionPolicy} {left : ℕ} {level :
 unfolding stepped idled txStep heardOf
 finish {s = s} a =
     let all = le-leb (s .«tx_hb» .«tx_hb_len») (s .core .tx .«tx_hb_cnt») (omega arith) in
-    let rule : ruleOf s (drives s) ≡ End = on-true (ap (λ n. eqb n 0) (a .arms)) _ _ ∙ on-true all _ _ in
+    let rule : ruleOf s (drives s) ≡ End = on-false (ap (λ n. not (eqb n 0)) (a .arms)) _ _ ∙ on-true all _ _ in
     rw (by-rule s (drives s) (a .state) rule) (refl, refl, a .clear)
 
 pub rest : (s : DaliBitbangPhy) → Rests s → Rests (next s)
-unfolding tickOf actOf isRx pick machine.actOf idleTick heardOf
+unfolding tickOf actOf pick idleTick silent fell heardOf
 rest s r = rw (r .0, r .1) (refl, refl, r .2)
 
 -- ---- the calls of a host
@@ -188,7 +199,7 @@ moved : {bits : List Bool} {policy : CollisionPolicy} {ticks j left : ℕ} {leve
     → Same s t → Clear t → Sender bits policy ticks j left level s → Sender bits (t .core .«collision_policy») ticks j left level t
 moved k clear a = record {
   state = ap (λ b. b .«bus_state») (k .bus) ∙ a .state;
-  store = ap (λ hb. hb .«tx_hb_data») (k .halfbits) ∙ a .store;
+  store = k .halfbits ∙ a .store;
   loads = ap (λ hb. hb .«tx_hb_len») (k .halfbits) ∙ a .loads;
   watch = refl;
   arms = ap (λ tx. tx .«tx_armed») (k .tx) ∙ a .arms;

@@ -12,7 +12,8 @@ use Rattle.fsm.specs.declared.DaliBitbangPhy.{DaliBitbangPhy}
 use Rattle.fsm.specs.declared.Started.{Started}
 use Rattle.fsm.specs.declared.StartAnswer.the-variants as start
 use Rattle.fsm.specs.declared.TxPollResult.the-variants.{Ok, Transmitting}
-use Rattle.fsm.specs.Starting.{isIdle, hears, startTx, startAnswer}
+use Rattle.fsm.specs.Starting.{startTx, startAnswer}
+use Rattle.machine.specs.States.{isIdle, hears}
 use Rattle.fsm.specs.Polling.{polled}
 use Rattle.reached.specs.Ticks.{drives, IsIdle, IsSending, alone}
 

@@ -1,4 +1,5 @@
 pub mod Numbers
 pub mod Polls
-pub mod Quiet
+pub mod Ticks
+pub mod Replays
 pub mod Sole

@@ -6,8 +6,9 @@ use Rattle.halfbits.specs.declared.HalfBitBuffer.{HalfBitBuffer}
 use Rattle.fsm.specs.declared.DaliBitbangPhy.{DaliBitbangPhy}
 use Rattle.fsm.specs.declared.StartAnswer.the-variants as start
 use Rattle.fsm.specs.declared.Started.{Started}
+use Rattle.machine.specs.States.{isIdle, hears}
 use Rattle.fsm.specs.Refusals.{numberOf, startNumber}
-use Rattle.fsm.specs.Starting.{isIdle, hears, lengthFits, startedWith, loadedWith, started, startTx, startAnswer}
+use Rattle.fsm.specs.Starting.{lengthFits, startedWith, loadedWith, started, startTx, startAnswer}
 
 fitted : (fits : Bool) (s t : DaliBitbangPhy)
     → numberOf (pick {A = Started} fits (startedWith t start.Started) (startedWith s start.BadLength) .answer) ≡ pick fits 0 8

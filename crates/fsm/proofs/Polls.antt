@@ -1,22 +1,23 @@
 -- A poll's answer says what holds of the station. Assumes nothing.
 use mathlib.Core.Path.{_≡_}
+use mathlib.Core.Bool.{not}
 use lib.Dec.{eqb}
+use Rattle.machine.specs.States.{isTx}
 use borrow.Author.Tests.{eqb-true, eqb-false}
+use Rattle.laws.proofs.Joined.{is-not, is}
 use Rattle.laws.proofs.Picked.{cases}
 use Rattle.fsm.specs.declared.DaliBitbangPhy.{DaliBitbangPhy}
 use Rattle.fsm.specs.declared.Polled.{Polled}
-use Rattle.fsm.specs.Polling.{isTx, Says, polled}
+use Rattle.fsm.specs.Polling.{Says, polled}
 
 says : (s : DaliBitbangPhy) → Says (polled s .answer) s
 unfolding polled Says
 says s =
     let P : Polled → Type 0 = λ (x : Polled). Says (x .answer) s in
+    let collisions = s .core .told .«tx_collision» in
     cases P (s .core .told .«tx_yielded») (λ y. y)
-    (λ n. cases P (eqb (s .core .told .«tx_collision») 0)
-    (λ e. cases P (isTx (s .core .bus .«bus_state»))
-    (λ t. (n, eqb-true (s .core .told .«tx_collision») 0 e, t))
-    (λ t. (n, eqb-true (s .core .told .«tx_collision») 0 e, t)))
-    (λ e. (n, eqb-false (s .core .told .«tx_collision») 0 e)))
+    (λ n. cases P (not (eqb collisions 0)) (λ e. (n, eqb-false collisions 0 (is-not _ e)))
+    (λ e. cases P (isTx (s .core .bus .«bus_state»)) (λ t. (n, eqb-true collisions 0 (is _ e), t)) (λ t. (n, eqb-true collisions 0 (is _ e), t))))
 
 pub told : {r : Polled} (s : DaliBitbangPhy) → r ≡ polled s → (r ≡ polled s) × Says (r .answer) s
 told s e = (e, rw e (says s))

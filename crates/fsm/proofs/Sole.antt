@@ -3,6 +3,12 @@
 use Rattle.laws.proofs.Only.{Only, named, named-and}
 use Rattle.fsm.proofs.settle_ticks_on_wire.Reads as settle-ticks-on-wire
 use Rattle.fsm.proofs.restart_gate_for.Reads as restart-gate-for
+use Rattle.fsm.proofs.sample.Reads as sample
+use Rattle.fsm.proofs.fill.Reads as fill
+use Rattle.fsm.proofs.with_end.Reads as with-end
+use Rattle.fsm.proofs.with_rx.Reads as with-rx
+use Rattle.fsm.proofs.captured.Reads as captured
+use Rattle.fsm.proofs.end_rx.Reads as end-rx
 use Rattle.fsm.proofs.DaliBitbangPhy.new.Reads as new-station
 use Rattle.fsm.proofs.DaliBitbangPhy.set_collision_policy.Reads as set-collision-policy
 use Rattle.fsm.proofs.DaliBitbangPhy.tick.Reads as tick
@@ -28,6 +34,24 @@ settle-ticks-on-wire-sole κs a x = named _
 
 pub restart-gate-for-sole : (κs : _) (a : _) (x : _) → Only (λ r. restart-gate-for.Post κs a r x)
 restart-gate-for-sole κs a x = named _
+
+pub sample-sole : (κs : _) (a : _) (x : _) → Only (λ r. sample.Post κs a r x)
+sample-sole κs a x = named _
+
+pub fill-sole : (κs : _) (a : _) (x : _) → Only (λ r. fill.Post κs a r x)
+fill-sole κs a x = named _
+
+pub with-end-sole : (κs : _) (a : _) (x : _) → Only (λ r. with-end.Post κs a r x)
+with-end-sole κs a x = named _
+
+pub with-rx-sole : (κs : _) (a : _) (x : _) → Only (λ r. with-rx.Post κs a r x)
+with-rx-sole κs a x = named _
+
+pub captured-sole : (κs : _) (a : _) (x : _) → Only (λ r. captured.Post κs a r x)
+captured-sole κs a x = named _
+
+pub end-rx-sole : (κs : _) (a : _) (x : _) → Only (λ r. end-rx.Post κs a r x)
+end-rx-sole κs a x = named _
 
 pub new-station-sole : (κs : _) (a : _) (x : _) → Only (λ r. new-station.Post κs a r x)
 new-station-sole κs a x = named _

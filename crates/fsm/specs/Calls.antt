@@ -1,26 +1,22 @@
 -- The other calls of a station that change it. Assumes nothing.
 use mathlib.Core.Bool.{true, false}
 use Rattle.event.specs.Event.{newEvent}
-use Rattle.machine.specs.Groups.{withTold, telling, received}
+use Rattle.machine.specs.Fields as core
 use Rattle.machine.specs.declared.RxState.{RxState}
 use Rattle.machine.specs.declared.RxState.the-variants.{Empty, Receiving, Completed}
 use Rattle.machine.specs.declared.CollisionPolicy.{CollisionPolicy}
-use Rattle.machine.specs.declared.Core.{Core}
 use Rattle.fsm.specs.Station.{lastEvent, withCore}
 use Rattle.fsm.specs.declared.DaliBitbangPhy.{DaliBitbangPhy}
 use Rattle.fsm.specs.declared.TookIdle.{TookIdle}
 use Rattle.fsm.specs.declared.TookRx.{TookRx}
 
-abbrev inPolicy : Core → CollisionPolicy → Core
-inPolicy c p = record { runs = c .runs; bus = c .bus; rx = c .rx; told = c .told; tx = c .tx; «collision_policy» = p }
-
 unfoldable pub withPolicy : DaliBitbangPhy → CollisionPolicy → DaliBitbangPhy
-withPolicy s p = withCore s (inPolicy (s .core) p)
+withPolicy s p = withCore s (core.withPolicy (s .core) p)
 
 -- the after-break mark, which is cleared by telling
 unfoldable pub tookIdle : DaliBitbangPhy → TookIdle
 tookIdle s = record {
-  station = withCore s (telling (s .core) (s .core .told .«tx_collision») false (s .core .told .«tx_yielded»));
+  station = withCore s (core.withTxIdleAfterBreak (s .core) false);
   idle = s .core .told .«tx_idle_after_break»;
 }
 
@@ -28,7 +24,7 @@ tookIdle s = record {
 unfoldable pub acknowledged : RxState → DaliBitbangPhy → DaliBitbangPhy
 acknowledged Empty s = s
 acknowledged Receiving s = s
-acknowledged Completed s = withCore s (withTold (s .core) (received (s .core) Empty))
+acknowledged Completed s = withCore s (core.withRxState (s .core) Empty)
 
 -- The event, and it is acknowledged; or none, which a fresh event stands for.
 unfoldable pub tookRx : RxState → DaliBitbangPhy → TookRx

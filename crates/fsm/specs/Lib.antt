@@ -1,6 +1,6 @@
 pub mod Station
 pub mod Ticking
-pub mod Receiving
+pub mod Rx
 pub mod Starting
 pub mod Refusals
 pub mod Polling

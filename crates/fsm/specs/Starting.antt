@@ -1,51 +1,34 @@
 -- Document 01, "Machine": start calls, with "Refusal numbers" 7 and 8. Assumes nothing.
 use Prim.Native.Nat.{ℕ}
-use mathlib.Core.Bool.{Bool, true, false}
+use mathlib.Core.Bool.{Bool, true, false, not, _&&_}
 use lib.Dec.{eqb, leb}
 use Rattle.laws.specs.Pick.{pick}
 use Rattle.halfbits.specs.declared.HalfBitBuffer.{HalfBitBuffer}
+use Rattle.machine.specs.Sending.{storeOf}
 use Rattle.machine.specs.Starting.{loaded}
-use Rattle.machine.specs.declared.BusState.{BusState}
-use Rattle.machine.specs.declared.BusState.the-variants as bus
+use Rattle.machine.specs.States.{isIdle, hears}
 use Rattle.fsm.specs.Station.{stationOf}
 use Rattle.fsm.specs.declared.DaliBitbangPhy.{DaliBitbangPhy}
 use Rattle.fsm.specs.declared.StartAnswer.{StartAnswer}
 use Rattle.fsm.specs.declared.StartAnswer.the-variants as start
 use Rattle.fsm.specs.declared.Started.{Started}
 
--- ---- when it is allowed
-unfoldable pub isIdle : BusState → Bool
-isIdle bus.Idle = true
-isIdle bus.Rx = false
-isIdle bus.Tx = false
-isIdle bus.CollisionTx = false
-
-unfoldable pub hears : BusState → Bool
-hears bus.Idle = true
-hears bus.Rx = true
-hears bus.Tx = false
-hears bus.CollisionTx = false
-
 -- a length of 1 to 54
 unfoldable pub lengthFits : ℕ → Bool
-lengthFits n = pick (eqb n 0) false (leb n 54)
+lengthFits n = not (eqb n 0) && leb n 54
 
--- ---- what it does
 abbrev pub startedWith : DaliBitbangPhy → StartAnswer → Started
 startedWith s answer = record { station = s; answer = answer }
 
 -- the station that sends the half-bits: its captures stay as they are
 unfoldable pub loadedWith : DaliBitbangPhy → HalfBitBuffer → Bool → DaliBitbangPhy
-loadedWith s hb answer =
-    stationOf (loaded (s .core) answer) (s .«rx_data»)
-    (record { «tx_hb_data» = hb .«data»; «tx_hb_len» = hb .length })
-    (s .«last_rx»)
+loadedWith s hb answer = stationOf (loaded (s .core) answer) (s .«rx_data») (storeOf hb) (s .«last_rx»)
 
 -- refusal 8, with the station untouched, or the start
 unfoldable pub started : DaliBitbangPhy → HalfBitBuffer → Bool → Started
 started s hb answer = pick (lengthFits (hb .length)) (startedWith (loadedWith s hb answer) start.Started) (startedWith s start.BadLength)
 
--- refusal 7, with the station untouched, comes first
+-- refusal 7, with the station untouched, comes first: `start_tx` outside Idle, `start_answer` outside Idle and Rx
 unfoldable pub startTx : DaliBitbangPhy → HalfBitBuffer → Started
 startTx s hb = pick (isIdle (s .core .bus .«bus_state»)) (started s hb false) (startedWith s start.Busy)
 

@@ -1,8 +1,8 @@
 -- A new station, and the event that a station hands out. Assumes nothing.
-use Prim.Native.Nat.{ℕ}
 use mathlib.Core.Bool.{true, false}
-use mathlib.Core.List.{List}
 use lib.ListN.{replicate}
+use Rattle.capture.specs.declared.Samples.{Samples}
+use Rattle.capture.specs.Samples.{bytesOf, samplesOf}
 use Rattle.event.specs.declared.RxCompletedEvent.{RxCompletedEvent}
 use Rattle.event.specs.Event.{eventOf}
 use Rattle.machine.specs.declared.BusState.the-variants.{Idle}
@@ -13,28 +13,31 @@ use Rattle.machine.specs.declared.TxHb.{TxHb}
 use Rattle.fsm.specs.declared.LastRx.{LastRx}
 use Rattle.fsm.specs.declared.DaliBitbangPhy.{DaliBitbangPhy}
 
-abbrev pub lastRxOf : List ℕ → ℕ → ℕ → LastRx
-lastRxOf samples count pre = record { samples = samples; «sample_count» = count; «pre_idle_ticks» = pre }
-
-abbrev pub noCapture : LastRx
-noCapture = lastRxOf (replicate 64 0) 0 0
-
 -- the event of the last capture that was completed
 abbrev pub lastEvent : DaliBitbangPhy → RxCompletedEvent
-lastEvent s = eventOf (s .«last_rx» .samples) (s .«last_rx» .«sample_count») (s .«last_rx» .«pre_idle_ticks»)
+lastEvent s = eventOf (bytesOf (s .«last_rx» .samples)) (s .«last_rx» .«sample_count») (s .«last_rx» .«pre_idle_ticks»)
 
 unfoldable pub newCore : Core
 newCore = record {
+  tx = record { «tx_hb_cnt» = 0; «tx_sp_cnt» = 0; «tx_high» = 0; «tx_armed» = 0; «tx_answer» = false };
+  «collision_policy» = Auto;
   runs = record { «high_run_ticks» = 0; «low_run_ticks» = 0 };
   bus = record { idlecnt = 0; «bus_state» = Idle; «rx_debounce» = 0; «driven_high» = true; «tx_busy» = false };
   rx = record { «rx_pos» = 0; «rx_byte» = 0; «rx_bit_cnt» = 0; «rx_idle» = 0; «rx_pre_idle» = 0 };
   told = record { «tx_pre_idle» = 0; «rx_state» = Empty; «tx_collision» = 0; «tx_idle_after_break» = false; «tx_yielded» = false };
-  tx = record { «tx_hb_cnt» = 0; «tx_sp_cnt» = 0; «tx_high» = 0; «tx_armed» = 0; «tx_answer» = false };
-  «collision_policy» = Auto;
 }
 
-abbrev pub stationOf : Core → List ℕ → TxHb → LastRx → DaliBitbangPhy
-stationOf core bytes hb last = record { core = core; «rx_data» = bytes; «tx_hb» = hb; «last_rx» = last }
+-- 64 bytes, all of them 0
+abbrev pub noSamples : Samples
+noSamples = samplesOf (replicate 64 0)
+
+abbrev pub stationOf : Core → Samples → TxHb → LastRx → DaliBitbangPhy
+stationOf core samples hb last = record {
+  core = core;
+  «rx_data» = samples;
+  «tx_hb» = hb;
+  «last_rx» = last;
+}
 
 -- a station with another core, and nothing else changed
 abbrev pub withCore : DaliBitbangPhy → Core → DaliBitbangPhy
@@ -42,4 +45,7 @@ withCore s core = stationOf core (s .«rx_data») (s .«tx_hb») (s .«last_rx»
 
 -- Idle, the line high, policy Auto, nothing captured and nothing to send.
 unfoldable pub newStation : DaliBitbangPhy
-newStation = stationOf newCore (replicate 64 0) (record { «tx_hb_data» = replicate 7 0; «tx_hb_len» = 0 }) noCapture
+newStation =
+    stationOf newCore noSamples
+    (record { «tx_hb_bits» = 0; «tx_hb_len» = 0 })
+    (record { samples = noSamples; «sample_count» = 0; «pre_idle_ticks» = 0; filler = 0 })

@@ -1,25 +1,23 @@
 -- Document 01, "Machine": a tick. Assumes nothing.
-use mathlib.Core.Bool.{Bool, true, false}
-use Rattle.laws.specs.Pick.{pick}
+use mathlib.Core.Bool.{Bool}
 use Rattle.machine.specs.Runs.{heardOf}
-use Rattle.machine.specs.Acting as machine
+use Rattle.machine.specs.Idle.{idleTick}
+use Rattle.machine.specs.Sending.{txTick}
+use Rattle.machine.specs.Collision.{collisionTick}
 use Rattle.machine.specs.declared.BusState.{BusState}
 use Rattle.machine.specs.declared.BusState.the-variants as bus
 use Rattle.machine.specs.declared.Core.{Core}
 use Rattle.fsm.specs.Station.{withCore}
-use Rattle.fsm.specs.Receiving.{storedRx}
+use Rattle.fsm.specs.Rx.{rxTick}
 use Rattle.fsm.specs.declared.DaliBitbangPhy.{DaliBitbangPhy}
 use Rattle.fsm.specs.declared.Ticked.{Ticked}
 
-unfoldable pub isRx : BusState → Bool
-isRx bus.Idle = false
-isRx bus.Rx = true
-isRx bus.Tx = false
-isRx bus.CollisionTx = false
-
--- Both run lengths are updated, and then the core (`c`) acts by state. In Rx bytes of a capture may be written; in no other state.
+-- Both run lengths are updated, and then the core (`c`) acts by state. Only Rx writes to a capture.
 unfoldable pub actOf : BusState → DaliBitbangPhy → Core → Bool → DaliBitbangPhy
-actOf state s c high = pick (isRx state) (storedRx s c high) (withCore s (machine.actOf state c (s .«tx_hb») high))
+actOf bus.Idle s c high = withCore s (idleTick c high)
+actOf bus.Rx s c high = rxTick s c high
+actOf bus.Tx s c high = withCore s (txTick c (s .«tx_hb») high)
+actOf bus.CollisionTx s c high = withCore s (collisionTick c high)
 
 unfoldable pub tickOf : DaliBitbangPhy → Bool → DaliBitbangPhy
 tickOf s high = actOf (s .core .bus .«bus_state») s (heardOf (s .core) high) high

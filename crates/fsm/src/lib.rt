@@ -1,20 +1,22 @@
 // The station of source document 000 (fsm.rs) by value: its captures, its tick and every other call.
 ghost use mathlib.Core.Path.{_≡_};
 ghost use mathlib.Core.Bool.{not};
-ghost use Prim.Native.Nat.{_+_, _-_, min};
+ghost use Prim.Native.Nat.{_+_, _-_, _*_, _%_, min};
 ghost use lib.Dec.{eqb};
-ghost use lib.ListN.{set};
-ghost use Rattle.event.specs.Event.{eventOf};
-ghost use Rattle.machine.specs.Sampling.{finished};
+ghost use Rattle.laws.specs.Bit.{bit};
+ghost use Rattle.capture.specs.Samples.{withByte};
+ghost use Rattle.machine.specs.States.{isIdle, hears};
+ghost use Rattle.machine.specs.Fields.{withRx, withTold, withRxState};
 ghost use Rattle.fsm.specs.Constants.{publicConstants};
-ghost use Rattle.fsm.specs.Station.{lastEvent, newCore, newStation};
-ghost use Rattle.fsm.specs.Receiving.{filled, finishedRx, storedRx};
-ghost use Rattle.fsm.specs.Ticking.{ticked};
+ghost use Rattle.fsm.specs.Station.{lastEvent, withCore, newCore, newStation};
+ghost use Rattle.fsm.specs.Rx.{highRun, filledUp, shiftedIn, sampled, lastOf, finished, notified, wentOn, rxTick};
+ghost use Rattle.fsm.specs.Ticking.{actOf, ticked};
 ghost use Rattle.fsm.specs.Refusals.{numberOf, startNumber};
-ghost use Rattle.fsm.specs.Starting.{isIdle, hears, lengthFits, started, startTx, startAnswer};
-ghost use Rattle.fsm.specs.Polling.{pollResultNumber, isTx, Says, polled};
+ghost use Rattle.fsm.specs.Starting.{lengthFits, started, startTx, startAnswer};
+ghost use Rattle.fsm.specs.Polling.{pollResultNumber, Says, polled};
 ghost use Rattle.fsm.specs.Calls.{withPolicy, tookIdle, acknowledged, tookRx};
 ghost use Rattle.machine.specs.declared.RxState.the-variants.{Empty, Completed};
+use capture::Samples;
 pub use event::DALI_RX_SAMPLE_BUF_LEN;
 pub use event::LINE_HELD_TICKS;
 pub use event::PHY_TICK_US;
@@ -25,7 +27,6 @@ pub use machine::BusState;
 pub use machine::COLLISION_BREAK_TICKS;
 pub use machine::CollisionPolicy;
 use machine::Core;
-use machine::MAX_RX_IDX;
 pub use machine::RX_IDLE_LINE_HIGH_TICKS;
 pub use machine::RX_START_DEBOUNCE_TICKS;
 use machine::Runs;
@@ -36,6 +37,8 @@ pub use machine::TX_HALF_BIT_TICKS;
 use machine::Told;
 use machine::Tx;
 use machine::TxHb;
+
+const MAX_RX_IDX: usize = DALI_RX_SAMPLE_BUF_LEN - 1;
 
 // Nobody calls this: its promise says what each public constant is.
 fn constants() -> PublicConstants
@@ -107,28 +110,21 @@ pub fn restart_gate_for(release_to_edge_ticks: u8) -> u8
     0
 }
 
-// What a station keeps of its last event: what the machine sets. Nothing in the machine changes the event's other fields, and a tick copies
-// the less.
+// What a station keeps of its last event: what the machine sets. The filler is always 0: a gap of one byte in its place would be copied byte by
+// byte at each tick.
 pub struct LastRx {
-    samples: [u8; DALI_RX_SAMPLE_BUF_LEN],
-    sample_count: u16,
-    pre_idle_ticks: u8,
+    pub samples: Samples,
+    pub sample_count: u16,
+    pub pre_idle_ticks: u8,
+    pub filler: u8,
 }
 
-impl LastRx {
-    fn event(self) -> RxCompletedEvent
-        ensures { λ r. ⌜ r ≡ eventOf (self .samples) (self .«sample_count») (self .«pre_idle_ticks») ⌝ }
-    {
-        let samples = self.samples;
-        RxCompletedEvent::of_capture(samples, self.sample_count, self.pre_idle_ticks)
-    }
-}
-
+// The fields are public for `in_place`, which changes a station that it is lent. No promise rests on who wrote them.
 pub struct DaliBitbangPhy {
-    core: Core,
-    rx_data: [u8; DALI_RX_SAMPLE_BUF_LEN],
-    tx_hb: TxHb,
-    last_rx: LastRx,
+    pub core: Core,
+    pub rx_data: Samples,
+    pub tx_hb: TxHb,
+    pub last_rx: LastRx,
 }
 
 // Calls that change a station give it back beside their answer.
@@ -160,22 +156,7 @@ pub struct TookRx {
     pub event: RxCompletedEvent,
 }
 
-// A capture with one byte written; a position past the last slot has none.
-fn with_byte(
-    data: [u8; DALI_RX_SAMPLE_BUF_LEN],
-    at: usize,
-    byte: u8,
-) -> [u8; DALI_RX_SAMPLE_BUF_LEN]
-    ensures { λ r. ⌜ r ≡ set «data» at byte ⌝ }
-{
-    if at < DALI_RX_SAMPLE_BUF_LEN {
-        let mut kept = data;
-        kept[at] = byte;
-        return kept;
-    }
-    data
-}
-
+// The byte that a sample completes is written here.
 fn slot(rx_pos: u16) -> usize
     ensures { λ r. ⌜ r ≡ min «rx_pos» 63 ⌝ }
 {
@@ -185,60 +166,149 @@ fn slot(rx_pos: u16) -> usize
     rx_pos as usize
 }
 
-// The capture after one sample more: the eighth fills a byte.
-fn fill(
-    data: [u8; DALI_RX_SAMPLE_BUF_LEN],
-    rx: Rx,
-    bus_is_high: bool,
-) -> [u8; DALI_RX_SAMPLE_BUF_LEN]
-    ensures { λ r. ⌜ r ≡ filled «data» rx «bus_is_high» ⌝ }
+fn next_pos(rx_pos: u16) -> u16
+    ensures { λ r. ⌜ r ≡ min («rx_pos» + 1) 63 ⌝ }
+{
+    if rx_pos < MAX_RX_IDX as u16 {
+        return rx_pos + 1;
+    }
+    MAX_RX_IDX as u16
+}
+
+// The byte with one sample more, at its low end.
+fn shifted(rx_byte: u8, bus_is_high: bool) -> u8
+    ensures { λ r. ⌜ r ≡ «rx_byte» % 128 * 2 + bit «bus_is_high» ⌝ }
+{
+    let twice = rx_byte % 128 * 2;
+    if bus_is_high {
+        return twice + 1;
+    }
+    twice
+}
+
+fn high_run(rx: Rx, bus_is_high: bool) -> u8
+    ensures { λ r. ⌜ r ≡ highRun rx «bus_is_high» ⌝ }
+{
+    if bus_is_high {
+        return machine::saturating_inc8(rx.rx_idle);
+    }
+    0
+}
+
+// The eighth sample fills a byte. It stands apart from the others, so that one tick in eight computes a position.
+fn with_eighth(rx: Rx, bus_is_high: bool) -> Rx
+    ensures { λ r. ⌜ r ≡ filledUp rx «bus_is_high» ⌝ }
+{
+    let byte = shifted(rx.rx_byte, bus_is_high);
+    let idle = high_run(rx, bus_is_high);
+    let pos = next_pos(rx.rx_pos);
+    Rx {
+        rx_pos: pos,
+        rx_byte: byte,
+        rx_bit_cnt: 0,
+        rx_idle: idle,
+        rx_pre_idle: rx.rx_pre_idle,
+    }
+}
+
+fn with_sample(rx: Rx, bus_is_high: bool) -> Rx
+    ensures { λ r. ⌜ r ≡ shiftedIn rx «bus_is_high» ⌝ }
+{
+    let byte = shifted(rx.rx_byte, bus_is_high);
+    let idle = high_run(rx, bus_is_high);
+    let more = machine::wrapping_inc8(rx.rx_bit_cnt);
+    Rx {
+        rx_pos: rx.rx_pos,
+        rx_byte: byte,
+        rx_bit_cnt: more,
+        rx_idle: idle,
+        rx_pre_idle: rx.rx_pre_idle,
+    }
+}
+
+pub fn sample(rx: Rx, bus_is_high: bool) -> Rx
+    ensures { λ r. ⌜ r ≡ sampled rx «bus_is_high» ⌝ }
 {
     if rx.rx_bit_cnt == 7 {
-        return with_byte(data, slot(rx.rx_pos), rx.shifted(bus_is_high));
+        return with_eighth(rx, bus_is_high);
     }
-    data
+    with_sample(rx, bus_is_high)
 }
 
-fn is_idle(bus_state: BusState) -> bool
-    ensures { λ r. ⌜ r ≡ isIdle «bus_state» ⌝ }
+// The capture with the byte that an eighth sample completes.
+pub fn fill(rx_data: Samples, rx: Rx, bus_is_high: bool) -> Samples
+    ensures { λ r. ⌜ r ≡ withByte «rx_data» (min (rx .«rx_pos») 63) (rx .«rx_byte» % 128 * 2 + bit «bus_is_high») ⌝ }
 {
-    match bus_state {
-        BusState::Idle => true,
-        BusState::Rx => false,
-        BusState::Tx => false,
-        BusState::CollisionTx => false,
+    rx_data.with_byte(slot(rx.rx_pos), shifted(rx.rx_byte, bus_is_high))
+}
+
+// The capture with one byte for the idle line that ends it.
+pub fn with_end(rx_data: Samples, rx: Rx) -> Samples
+    ensures { λ r. ⌜ r ≡ withByte «rx_data» (rx .«rx_pos») 255 ⌝ }
+{
+    rx_data.with_byte(rx.rx_pos as usize, 0xFF)
+}
+
+pub fn with_rx(core: Core, rx: Rx) -> Core
+    ensures { λ r. ⌜ r ≡ withRx core rx ⌝ }
+{
+    let mut next = core;
+    next.rx = rx;
+    next
+}
+
+// What is told of a capture that has ended.
+pub fn captured(core: Core, samples: Samples) -> LastRx
+    ensures { λ r. ⌜ r ≡ lastOf core samples ⌝ }
+{
+    let rx = core.rx;
+    LastRx {
+        samples,
+        sample_count: rx.rx_pos,
+        pre_idle_ticks: rx.rx_pre_idle,
+        filler: 0,
     }
 }
 
-fn is_idle_or_rx(bus_state: BusState) -> bool
-    ensures { λ r. ⌜ r ≡ hears «bus_state» ⌝ }
+// What the calls tell of, with another mark of the capture.
+fn in_rx_state(core: Core, rx_state: RxState) -> Core
+    ensures { λ r. ⌜ r ≡ withRxState core «rx_state» ⌝ }
 {
-    match bus_state {
-        BusState::Idle => true,
-        BusState::Rx => true,
-        BusState::Tx => false,
-        BusState::CollisionTx => false,
-    }
+    let mut marked = core;
+    let was = core.told;
+    let told = Told {
+        tx_pre_idle: was.tx_pre_idle,
+        rx_state,
+        tx_collision: was.tx_collision,
+        tx_idle_after_break: was.tx_idle_after_break,
+        tx_yielded: was.tx_yielded,
+    };
+    marked.told = told;
+    marked
 }
 
-fn is_tx(bus_state: BusState) -> bool
-    ensures { λ r. ⌜ r ≡ isTx «bus_state» ⌝ }
+// The capture is whole: one byte more for the idle line.
+pub fn end_rx(core: Core, rx: Rx) -> Core
+    ensures { λ r. ⌜ r ≡ finished core rx ⌝ }
 {
-    match bus_state {
-        BusState::Idle => false,
-        BusState::Rx => false,
-        BusState::Tx => true,
-        BusState::CollisionTx => false,
-    }
+    let mut counted = core;
+    let count = machine::saturating_inc16(rx.rx_pos);
+    let whole = Rx {
+        rx_pos: count,
+        rx_byte: rx.rx_byte,
+        rx_bit_cnt: rx.rx_bit_cnt,
+        rx_idle: rx.rx_idle,
+        rx_pre_idle: rx.rx_pre_idle,
+    };
+    counted.rx = whole;
+    let marked = in_rx_state(counted, RxState::Completed);
+    marked.set_bus_idle()
 }
 
 fn length_fits(length: u8) -> bool
     ensures { λ r. ⌜ r ≡ lengthFits length ⌝ }
 {
-    if length == 0 {
-        return false;
-    }
-    length <= HalfBitBuffer::MAX_DATA_HALF_BITS
+    length != 0 && length <= HalfBitBuffer::MAX_DATA_HALF_BITS
 }
 
 // Idle, with the line released and no low tick remembered.
@@ -285,12 +355,12 @@ fn new_core() -> Core
         tx_answer: false,
     };
     Core {
+        tx,
+        collision_policy: CollisionPolicy::Auto,
         runs,
         bus,
         rx,
         told,
-        tx,
-        collision_policy: CollisionPolicy::Auto,
     }
 }
 
@@ -302,17 +372,19 @@ impl DaliBitbangPhy {
     {
         let core = new_core();
         let tx_hb = TxHb {
-            tx_hb_data: [0; HalfBitBuffer::DATA_LEN],
+            tx_hb_bits: 0,
             tx_hb_len: 0,
         };
+        let samples = Samples::new();
         let last_rx = LastRx {
-            samples: [0; DALI_RX_SAMPLE_BUF_LEN],
+            samples,
             sample_count: 0,
             pre_idle_ticks: 0,
+            filler: 0,
         };
         DaliBitbangPhy {
             core,
-            rx_data: [0; DALI_RX_SAMPLE_BUF_LEN],
+            rx_data: samples,
             tx_hb,
             last_rx,
         }
@@ -322,61 +394,72 @@ impl DaliBitbangPhy {
         ensures { λ r. ⌜ r ≡ withPolicy self p ⌝ }
     {
         let old = self.core;
+        let tx = old.tx;
         let runs = old.runs;
         let bus = old.bus;
         let rx = old.rx;
         let told = old.told;
-        let tx = old.tx;
         let core = Core {
+            tx,
+            collision_policy: p,
             runs,
             bus,
             rx,
             told,
-            tx,
-            collision_policy: p,
         };
+        self.with_core(core)
+    }
+
+    fn with_core(self, core: Core) -> DaliBitbangPhy
+        ensures { λ r. ⌜ r ≡ withCore self core ⌝ }
+    {
         let mut station = self;
         station.core = core;
         station
     }
 
-    // The capture is whole: 0xFF at its position, and the event is ready.
-    fn finish_rx_and_notify(
-        self,
-        core: Core,
-        rx: Rx,
-        rx_data: [u8; DALI_RX_SAMPLE_BUF_LEN],
-    ) -> DaliBitbangPhy
-        ensures { λ r. ⌜ r ≡ finishedRx self (finished core rx) rx «rx_data» ⌝ }
+    fn with_told(self, told: Told) -> DaliBitbangPhy
+        ensures { λ r. ⌜ r ≡ withCore self (withTold (self .core) told) ⌝ }
     {
-        let samples = with_byte(rx_data, rx.rx_pos as usize, 0xFF);
-        let next = core.finish_rx(rx);
-        let counted = next.rx;
+        let mut core = self.core;
+        core.told = told;
+        self.with_core(core)
+    }
+
+    // The event is ready.
+    fn finish_rx_and_notify(self, core: Core, rx_data: Samples) -> DaliBitbangPhy
+        ensures { λ r. ⌜ r ≡ notified self core «rx_data» ⌝ }
+    {
         let tx_hb = self.tx_hb;
-        let last_rx = LastRx {
-            samples,
-            sample_count: counted.rx_pos,
-            pre_idle_ticks: counted.rx_pre_idle,
-        };
+        let last_rx = captured(core, rx_data);
         DaliBitbangPhy {
-            core: next,
-            rx_data: samples,
+            core,
+            rx_data,
             tx_hb,
             last_rx,
         }
     }
 
-    // An Rx tick that writes to a capture.
     fn tick_rx(self, core: Core, bus_is_high: bool) -> DaliBitbangPhy
-        ensures { λ r. ⌜ r ≡ storedRx self core «bus_is_high» ⌝ }
+        ensures { λ r. ⌜ r ≡ rxTick self core «bus_is_high» ⌝ }
     {
         let old = core.rx;
         let data = self.rx_data;
-        let rx = old.with_sample(bus_is_high);
-        let rx_data = fill(data, old, bus_is_high);
+        if old.rx_bit_cnt == 7 {
+            let rx = with_eighth(old, bus_is_high);
+            let rx_data = fill(data, old, bus_is_high);
+            return self.go_on(core, rx, rx_data);
+        }
+        let rx = with_sample(old, bus_is_high);
+        self.go_on(core, rx, data)
+    }
+
+    // The capture goes on, or the sixteenth high running ends it.
+    fn go_on(self, core: Core, rx: Rx, rx_data: Samples) -> DaliBitbangPhy
+        ensures { λ r. ⌜ r ≡ wentOn self core rx «rx_data» ⌝ }
+    {
         if rx.rx_idle < RX_IDLE_LINE_HIGH_TICKS {
-            let mut next = core;
-            next.rx = rx;
+            let next = with_rx(core, rx);
             let tx_hb = self.tx_hb;
             let last_rx = self.last_rx;
             return DaliBitbangPhy {
@@ -386,38 +469,33 @@ impl DaliBitbangPhy {
                 last_rx,
             };
         }
-        self.finish_rx_and_notify(core, rx, rx_data)
+        self.finish_rx_and_notify(end_rx(core, rx), with_end(rx_data, rx))
     }
 
-    // Where nothing is written to a capture, the arrays are handed on untouched: they are copied less that way.
     pub fn tick(self, bus_is_high: bool) -> Ticked
         ensures { λ r. ⌜ r ≡ ticked self «bus_is_high» ⌝ }
     {
         let old = self.core;
-        let heard = old.heard(bus_is_high);
-        if heard.stores(bus_is_high) {
-            let station = self.tick_rx(heard, bus_is_high);
-            let core = station.core;
-            let bus = core.bus;
-            return Ticked {
-                station,
-                driven_high: bus.driven_high,
-            };
-        }
-        let rx_data = self.rx_data;
-        let tx_hb = self.tx_hb;
-        let last_rx = self.last_rx;
-        let acted = heard.act(tx_hb, bus_is_high);
-        let bus = acted.bus;
-        let station = DaliBitbangPhy {
-            core: acted,
-            rx_data,
-            tx_hb,
-            last_rx,
-        };
+        let station = self.act(old.heard(bus_is_high), bus_is_high);
+        let core = station.core;
+        let bus = core.bus;
         Ticked {
             station,
             driven_high: bus.driven_high,
+        }
+    }
+
+    // What a tick does by state, once the core has heard the level.
+    fn act(self, core: Core, bus_is_high: bool) -> DaliBitbangPhy
+        ensures { λ r. ⌜ r ≡ actOf (core .bus .«bus_state») self core «bus_is_high» ⌝ }
+    {
+        let bus = core.bus;
+        let bus_state = bus.bus_state;
+        match bus_state {
+            BusState::Idle => self.with_core(core.tick_idle(bus_is_high)),
+            BusState::Rx => self.tick_rx(core, bus_is_high),
+            BusState::Tx => self.with_core(core.tick_tx(self.tx_hb, bus_is_high)),
+            BusState::CollisionTx => self.with_core(core.tick_collision_tx(bus_is_high)),
         }
     }
 
@@ -428,7 +506,7 @@ impl DaliBitbangPhy {
         let core = self.core;
         let bus = core.bus;
         let bus_state = bus.bus_state;
-        if is_idle(bus_state) {
+        if bus_state.is_idle() {
             return self.load_tx(halfbits, false);
         }
         Started {
@@ -445,7 +523,7 @@ impl DaliBitbangPhy {
         let core = self.core;
         let bus = core.bus;
         let bus_state = bus.bus_state;
-        if is_idle_or_rx(bus_state) {
+        if bus_state.is_idle_or_rx() {
             return self.load_tx(halfbits, true);
         }
         Started {
@@ -459,14 +537,10 @@ impl DaliBitbangPhy {
     {
         if length_fits(halfbits.length) {
             let old = self.core;
-            let core = old.load_tx(answer);
-            let tx_hb_data = halfbits.data;
-            let tx_hb = TxHb {
-                tx_hb_data,
-                tx_hb_len: halfbits.length,
-            };
+            let loaded = old.load_tx(answer);
+            let tx_hb = TxHb::of(halfbits);
             let mut station = self;
-            station.core = core;
+            station.core = loaded;
             station.tx_hb = tx_hb;
             return Started {
                 station,
@@ -499,37 +573,45 @@ impl DaliBitbangPhy {
         ensures { λ r. ⌜ r ≡ polled self ⌝ }
         ensures { λ r. ⌜ Says (r .answer) self ⌝ }
     {
-        let mut station = self;
-        let mut core = station.core;
-        let mut told = core.told;
+        let core = self.core;
+        let was = core.told;
         let bus = core.bus;
+        let rx_state = was.rx_state;
         let bus_state = bus.bus_state;
-        if told.tx_yielded {
-            told.tx_yielded = false;
-            core.told = told;
-            station.core = core;
+        if was.tx_yielded {
+            let told = Told {
+                tx_pre_idle: was.tx_pre_idle,
+                rx_state,
+                tx_collision: was.tx_collision,
+                tx_idle_after_break: was.tx_idle_after_break,
+                tx_yielded: false,
+            };
             return Polled {
-                station,
+                station: self.with_told(told),
                 answer: TxPollResult::Yielded,
             };
         }
-        if told.tx_collision != 0 {
-            told.tx_collision = 0;
-            core.told = told;
-            station.core = core;
+        if was.tx_collision != 0 {
+            let told = Told {
+                tx_pre_idle: was.tx_pre_idle,
+                rx_state,
+                tx_collision: 0,
+                tx_idle_after_break: was.tx_idle_after_break,
+                tx_yielded: was.tx_yielded,
+            };
             return Polled {
-                station,
+                station: self.with_told(told),
                 answer: TxPollResult::Collision,
             };
         }
-        if is_tx(bus_state) {
+        if bus_state.is_tx() {
             return Polled {
-                station,
+                station: self,
                 answer: TxPollResult::Transmitting,
             };
         }
         Polled {
-            station,
+            station: self,
             answer: TxPollResult::Ok,
         }
     }
@@ -538,14 +620,20 @@ impl DaliBitbangPhy {
     pub fn take_idle_after_break(self) -> TookIdle
         ensures { λ r. ⌜ r ≡ tookIdle self ⌝ }
     {
-        let mut station = self;
-        let mut core = station.core;
-        let mut told = core.told;
-        let idle = told.tx_idle_after_break;
-        told.tx_idle_after_break = false;
-        core.told = told;
-        station.core = core;
-        TookIdle { station, idle }
+        let core = self.core;
+        let was = core.told;
+        let rx_state = was.rx_state;
+        let told = Told {
+            tx_pre_idle: was.tx_pre_idle,
+            rx_state,
+            tx_collision: was.tx_collision,
+            tx_idle_after_break: false,
+            tx_yielded: was.tx_yielded,
+        };
+        TookIdle {
+            station: self.with_told(told),
+            idle: was.tx_idle_after_break,
+        }
     }
 
     pub fn rx_state(self) -> RxState
@@ -609,7 +697,8 @@ impl DaliBitbangPhy {
         ensures { λ r. ⌜ r ≡ lastEvent self ⌝ }
     {
         let last_rx = self.last_rx;
-        last_rx.event()
+        let kept = last_rx.samples;
+        RxCompletedEvent::of_capture(kept.bytes(), last_rx.sample_count, last_rx.pre_idle_ticks)
     }
 
     pub fn acknowledge_rx_frame(self) -> DaliBitbangPhy
@@ -628,12 +717,8 @@ impl DaliBitbangPhy {
     fn without_capture(self) -> DaliBitbangPhy
         ensures { λ r. ⌜ r ≡ acknowledged Completed self ⌝ }
     {
-        let mut core = self.core;
-        let told = core.in_rx_state(RxState::Empty);
-        core.told = told;
-        let mut station = self;
-        station.core = core;
-        station
+        let core = self.core;
+        self.with_core(in_rx_state(core, RxState::Empty))
     }
 
     pub fn take_completed_rx_event(self) -> TookRx

@@ -15,7 +15,7 @@ use Rattle.halfbits.specs.Frame.{Frame, bytesOf, frameBits, AreBytes}
 use Rattle.halfbits.specs.Wave.{high, levelAt}
 use Rattle.halfbits.proofs.Levels.{bitOf}
 use Rattle.fsm.specs.declared.DaliBitbangPhy.{DaliBitbangPhy}
-use Rattle.fsm.specs.Starting.{hears}
+use Rattle.machine.specs.States.{hears}
 use Rattle.bench_line.specs.declared.BenchLine.{BenchLine}
 use Rattle.bench_line.specs.Line.{stationsOn, stationAt}
 use Rattle.reached.specs.Ticks.{drives, IsIdle, heard, alone}

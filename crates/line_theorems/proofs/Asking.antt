@@ -2,7 +2,7 @@
 use Prim.Native.Nat.{ℕ, suc, _-_, _<_}
 use native.Mathlib.Omega.{arith}
 use native.Mathlib.Decide.{ℕ-discrete}
-use mathlib.Core.Bool.{Bool, true, false≢true}
+use mathlib.Core.Bool.{Bool, true, false≢true, not}
 use mathlib.Core.List.{List, [], _∷_}
 use mathlib.Core.Logic.{inl, inr}
 use mathlib.Core.Path.{_≡_, refl, sym, _∙_, ap, subst}
@@ -19,8 +19,8 @@ use Rattle.fsm.specs.declared.DaliBitbangPhy.{DaliBitbangPhy}
 use Rattle.fsm.specs.declared.Polled.{Polled}
 use Rattle.fsm.specs.Station.{newStation}
 use Rattle.fsm.specs.Ticking.{tickOf}
-use Rattle.fsm.specs.Starting.{hears}
-use Rattle.fsm.specs.Polling.{isTx, polled}
+use Rattle.machine.specs.States.{hears, isTx}
+use Rattle.fsm.specs.Polling.{polled}
 use Rattle.fsm.specs.Calls.{withPolicy, tookIdle, acknowledged, tookRx}
 use Rattle.bench_line.specs.declared.BenchLine.{BenchLine}
 use Rattle.bench_line.specs.declared.LineChanged.{LineChanged}
@@ -63,8 +63,9 @@ module _ (s : DaliBitbangPhy) where
       let P : Polled → Type 0 = λ (x : Polled). Kept station.poll s (x .station) in
       cases P (s .core .told .«tx_yielded»)
       (λ _. record { bus = refl; runs = refl; last = refl; collisions = λ other. absurd (other refl); yields = λ other. absurd (other refl); marked = λ _. refl; event = λ _ _. refl })
-      (λ _. cases P (eqb (s .core .told .«tx_collision») 0) (λ _. cases P (isTx (s .core .bus .«bus_state»)) (λ _. as-it-was station.poll) (λ _. as-it-was station.poll))
-      (λ _. record { bus = refl; runs = refl; last = refl; collisions = λ other. absurd (other refl); yields = λ other. absurd (other refl); marked = λ _. refl; event = λ _ _. refl }))
+      (λ _. cases P (not (eqb (s .core .told .«tx_collision») 0))
+      (λ _. record { bus = refl; runs = refl; last = refl; collisions = λ other. absurd (other refl); yields = λ other. absurd (other refl); marked = λ _. refl; event = λ _ _. refl })
+      (λ _. cases P (isTx (s .core .bus .«bus_state»)) (λ _. as-it-was station.poll) (λ _. as-it-was station.poll)))
 
   -- by the call of that name, or by a take
   acknowledge-keeps : (k : Call) → ((k ≡ station.take-rx → ⊥) → (k ≡ station.acknowledge → ⊥) → ⊥) → (mark : RxState) → Kept k s (acknowledged mark s)

@@ -3,7 +3,7 @@ use Prim.Native.Nat.{ℕ, zero, suc, _+_, _*_, _%_, _-_, _<_, _≤_}
 use native.Mathlib.Omega.{arith}
 use native.Mathlib.Decide.{decLt}
 use native.Mathlib.Nat.{add-zero}
-use mathlib.Core.Bool.{Bool, true, false}
+use mathlib.Core.Bool.{Bool, true, false, not, _&&_, and-false}
 use mathlib.Core.List.{List}
 use mathlib.Core.Path.{_≡_, refl, sym, _∙_, ap, subst}
 use lib.Dec.{eqb, ltb}
@@ -14,21 +14,19 @@ use Rattle.laws.proofs.Picked.{on-true, on-false, cases}
 use Rattle.halfbits.specs.Wave.{high, low, levelAt}
 use Rattle.halfbits.specs.HalfBits.{halfBitsOf}
 use Rattle.machine.specs.declared.CollisionPolicy.{CollisionPolicy}
-use Rattle.machine.specs.declared.TxStep.the-variants.{Clash}
-use Rattle.machine.specs.Groups.{driving, spacing}
+use Rattle.machine.specs.Fields.{withDrivenHigh, withTxSpCnt}
 use Rattle.machine.specs.Runs.{heardOf}
 use Rattle.machine.specs.BecomingIdle.{idled}
-use Rattle.machine.specs.Idle.{idleTick}
+use Rattle.machine.specs.Idle.{idleTick, silent, fell}
 use Rattle.machine.specs.Collision.{broke, collisionTick}
-use Rattle.machine.specs.Sending.{watchesOf, clashOf, txStep, clashed, stepped}
-use Rattle.machine.specs.Acting as machine
+use Rattle.machine.specs.Sending.{Clash, watchesOf, clashOf, txStep, clashed, stepped}
 use Rattle.fsm.specs.declared.DaliBitbangPhy.{DaliBitbangPhy}
 use Rattle.fsm.specs.Station.{withCore}
-use Rattle.fsm.specs.Starting.{hears}
-use Rattle.fsm.specs.Ticking.{isRx, actOf, tickOf}
+use Rattle.machine.specs.States.{hears}
+use Rattle.fsm.specs.Ticking.{actOf, tickOf}
 use Rattle.reached.specs.Ticks.{drives, IsIdle, IsSending, heard, IsBreaking}
 use Rattle.frames.specs.Sends.{FitsBuffer}
-use Rattle.frames.proofs.SendingTicks.{Sender, ruleOf, clashes, by-rule, hold, drive}
+use Rattle.frames.proofs.SendingTicks.{Sender, ruleOf, clashes, by-rule, hold, drive, pulled-calm}
 use Rattle.line_theorems.proofs.Hearing.{heard-more, Listens}
 
 -- ---- a station in its break, so many ticks after it saw the clash
@@ -46,17 +44,17 @@ pub record Breaking (ticks : ℕ) (s : DaliBitbangPhy) : Type 0 where
 
 module _ (s : DaliBitbangPhy) (sampled : Bool) (breaking : IsBreaking s) where
   in-break : tickOf s sampled ≡ withCore s (collisionTick (heardOf (s .core) sampled) sampled)
-  unfolding tickOf actOf isRx pick machine.actOf
+  unfolding tickOf actOf pick
   in-break = rw breaking
 
   goes-on : (n : ℕ) → s .core .tx .«tx_sp_cnt» ≡ n → n < 13
-      → tickOf s sampled ≡ withCore s (driving (spacing (heardOf (s .core) sampled) (suc n)) (ltb 12 (suc n)))
+      → tickOf s sampled ≡ withCore s (withDrivenHigh (withTxSpCnt (heardOf (s .core) sampled) (suc n)) (ltb 12 (suc n)))
   unfolding collisionTick heardOf
   goes-on n e h =
       let next : (s .core .tx .«tx_sp_cnt» + 1) % 256 ≡ suc n = omega arith in
       in-break ∙ rw next (ap (withCore s) (on-false (lt-leb 14 (suc n) (omega arith)) _ _))
 
-  over : s .core .tx .«tx_sp_cnt» ≡ 13 → tickOf s sampled ≡ withCore s (broke (spacing (heardOf (s .core) sampled) 14) sampled)
+  over : s .core .tx .«tx_sp_cnt» ≡ 13 → tickOf s sampled ≡ withCore s (broke (withTxSpCnt (heardOf (s .core) sampled) 14) sampled)
   unfolding collisionTick heardOf pick
   over e = in-break ∙ rw e
 
@@ -69,7 +67,7 @@ break-next n s sampled h b =
 -- the fourteenth tick samples the line
 pub break-ends : (s : DaliBitbangPhy) (sampled : Bool) → Breaking 13 s
     → IsIdle (tickOf s sampled) × Listens 1 sampled false (tickOf s sampled)
-unfolding broke idled idleTick heardOf pick hears
+unfolding broke idled idleTick silent fell heardOf pick hears
 break-ends s true b = rw (over s true (b .state) (b .spaces)) (refl, record { hearing = refl; collisions = b .collisions; marked = refl; yields = b .yields })
 break-ends s false b = rw (over s false (b .state) (b .spaces)) (refl, record { hearing = refl; collisions = b .collisions; marked = refl; yields = b .yields })
 
@@ -83,16 +81,12 @@ breaks-on level s b (suc n) h = break-next n (heard n level s) (level n) (omega 
 module _ {bits : List Bool} {policy : CollisionPolicy} {j : ℕ} {s : DaliBitbangPhy} where
   -- no level is a clash on a half-bit that it pulls, nor on the second tick of any
   pulls-on : {left : ℕ} (sampled : Bool) → Sender bits policy 0 j left low s → clashes s sampled ≡ false
-  unfolding clashOf pick
-  pulls-on true a = refl
-  pulls-on false a = on-true (eq-eqb (s .core .tx .«tx_high») 0 (a .pulled refl)) _ _
+  pulls-on sampled a = pulled-calm (s .core .tx) (s .core .«collision_policy») (s .«tx_hb» .«tx_hb_len») sampled (a .pulled refl)
 
   not-yet : {level : Bool} (sampled : Bool) → Sender bits policy 0 j 3 level s → clashes s sampled ≡ false
-  unfolding clashOf pick
+  unfolding clashOf
   not-yet sampled a =
-      rw (a .spaces)
-      (cases (λ x. x ≡ false) sampled (λ _. refl)
-      (λ _. cases (λ x. x ≡ false) (eqb (s .core .tx .«tx_high») 0) (λ _. refl) (λ _. cases (λ x. x ≡ false) (watchesOf _ _) (λ _. refl) (λ _. refl))))
+      rw (a .spaces) (and-false ((watchesOf (s .core .«collision_policy») (s .«tx_hb» .«tx_hb_len») && not (eqb (s .core .tx .«tx_high») 0)) && not sampled))
 
   -- A low third tick of one that it releases is a clash.
   module _ (some : 0 < j) (more : j < halfBitsOf (length bits)) (watched : watchesOf policy (halfBitsOf (length bits)) ≡ true) where
@@ -104,7 +98,7 @@ module _ {bits : List Bool} {policy : CollisionPolicy} {j : ℕ} {s : DaliBitban
     unfolding stepped clashed heardOf txStep
     sees a =
         let rule : ruleOf s low ≡ Clash
-        = on-true (ap (λ n. eqb n 0) (a .arms)) _ _
+        = on-false (ap (λ n. not (eqb n 0)) (a .arms)) _ _
         ∙ on-false (lt-leb (s .«tx_hb» .«tx_hb_len») (s .core .tx .«tx_hb_cnt») (omega arith)) _ _
         ∙ on-true (is-clash a) _ _ in
         rw (by-rule s low (a .state) rule)

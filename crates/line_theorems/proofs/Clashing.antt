@@ -15,7 +15,7 @@ use Rattle.halfbits.proofs.Levels.{not-not, half-bits-are-the-wave}
 use Rattle.machine.specs.declared.CollisionPolicy.{CollisionPolicy}
 use Rattle.machine.specs.Sending.{watchesOf}
 use Rattle.fsm.specs.declared.DaliBitbangPhy.{DaliBitbangPhy}
-use Rattle.fsm.specs.Starting.{hears}
+use Rattle.machine.specs.States.{hears}
 use Rattle.bench_line.specs.declared.BenchLine.{BenchLine}
 use Rattle.bench_line.specs.Line.{stationsOn, stationAt}
 use Rattle.reached.specs.Ticks.{drives, IsIdle, IsSending, heard, alone, IsBreaking}

@@ -17,7 +17,6 @@ use Rattle.laws.proofs.Tabulated.{length-tabulate}
 use Rattle.halfbits.specs.HalfBits.{pulls, storeOf, bufferOf}
 use Rattle.halfbits.proofs.Levels.{bitOf, half-bits-are-the-wave}
 use Rattle.halfbits.proofs.Halves.{pulls-first, pulls-second, pulls-later}
-use Rattle.machine.specs.Sending.{releasesAt}
 use Rattle.frames.specs.Sends.{FitsBuffer}
 use Rattle.frames.specs.OneFrame.{OneWave}
 use Rattle.frames.proofs.SendingTicks.{read-back}
@@ -35,7 +34,7 @@ module _ (bits : List Bool) (j : ℕ) where
   byte = getD (storeOf bits) (j / 8) 0
 
   written : j < 56 → pullsIn (bufferOf bits) j ≡ pulls bits j
-  unfolding pullsIn bufferOf releasesAt pulls
+  unfolding pullsIn bufferOf pulls
   written h = one-or-zero (byte / 2 ^ (7 - j % 8) % 2) (omega arith) ∙ ap not (read-back bits j h)
 
   -- past the seventh byte

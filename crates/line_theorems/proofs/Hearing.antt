@@ -10,6 +10,7 @@ use lib.Dec.{ltb}
 use lib.ListN.{length, getD}
 use Rattle.laws.specs.Pick.{pick}
 use Rattle.laws.proofs.Picked.{cases}
+use Rattle.machine.specs.Fields.{withRxState}
 use Rattle.machine.specs.declared.BusState.{BusState}
 use Rattle.machine.specs.declared.BusState.the-variants as bus
 use Rattle.machine.specs.declared.RxState.{RxState}
@@ -17,17 +18,14 @@ use Rattle.machine.specs.declared.RxState.the-variants.{Receiving, Completed}
 use Rattle.machine.specs.declared.Runs.{Runs}
 use Rattle.machine.specs.declared.Told.{Told}
 use Rattle.machine.specs.declared.Core.{Core}
-use Rattle.machine.specs.Groups.{received}
 use Rattle.machine.specs.Runs.{heardOf}
 use Rattle.machine.specs.BecomingIdle.{idled}
-use Rattle.machine.specs.Idle.{entered, idleTick}
-use Rattle.machine.specs.Sampling.{sampled, goesOn, finished, rxTick}
-use Rattle.machine.specs.Acting as machine
+use Rattle.machine.specs.Idle.{entered, idleTick, silent, fell}
+use Rattle.fsm.specs.Rx.{sampled, goesOn, finished, notified, rxTick, wentOn}
 use Rattle.fsm.specs.declared.DaliBitbangPhy.{DaliBitbangPhy}
 use Rattle.fsm.specs.Station.{newStation}
-use Rattle.fsm.specs.Receiving.{finishedRx, storedRx}
-use Rattle.fsm.specs.Ticking.{isRx, actOf, tickOf}
-use Rattle.fsm.specs.Starting.{hears}
+use Rattle.fsm.specs.Ticking.{actOf, tickOf}
+use Rattle.machine.specs.States.{hears}
 use Rattle.reached.specs.Calls as station
 use Rattle.reached.specs.Calls.{Reached, after}
 use Rattle.reached.proofs.Holding.{invariants}
@@ -111,33 +109,29 @@ pub record Listens (collision : ℕ) (found yielded : Bool) (s : DaliBitbangPhy)
 pub record Keeps (c : Core) (level : Bool) (d : Core) : Type 0 where
   pub hearing : hears (d .bus .«bus_state») ≡ true
   pub mark : RxState
-  pub told : d .told ≡ received c mark
+  pub told : d .told ≡ withRxState c mark .told
   pub runs : d .runs ≡ heardOf c level .runs
 
 module _ (c : Core) (level : Bool) (h : hears (c .bus .«bus_state») ≡ true) where
   idle-keeps : Keeps c level (idleTick (heardOf c level) level)
-  unfolding idleTick entered heardOf hears
+  unfolding idleTick silent fell entered heardOf hears
   idle-keeps =
       cases (Keeps c level) level (λ _. record { hearing = h; mark = _; told = refl; runs = refl })
       (λ _. cases (Keeps c level) (ltb (min (c .bus .«rx_debounce» + 1) 255) 2)
       (λ _. record { hearing = h; mark = _; told = refl; runs = refl })
       (λ _. record { hearing = refl; mark = Receiving; told = refl; runs = refl }))
 
-  rx-keeps : Keeps c level (rxTick (heardOf c level) level)
-  unfolding rxTick finished idled heardOf hears
-  rx-keeps =
-      cases (Keeps c level) (goesOn (sampled (c .rx) level)) (λ _. record { hearing = h; mark = _; told = refl; runs = refl })
+  rx-keeps : (s : DaliBitbangPhy) → Keeps c level (rxTick s (heardOf c level) level .core)
+  unfolding rxTick wentOn notified finished idled heardOf hears
+  rx-keeps s =
+      cases (λ (t : DaliBitbangPhy). Keeps c level (t .core)) (goesOn (sampled (c .rx) level)) (λ _. record { hearing = h; mark = _; told = refl; runs = refl })
       (λ _. record { hearing = refl; mark = Completed; told = refl; runs = refl })
-
-stored-core : (s : DaliBitbangPhy) (c : Core) (level : Bool) → storedRx s c level .core ≡ rxTick c level
-unfolding storedRx finishedRx
-stored-core s c level = cases (λ (s′ : DaliBitbangPhy). s′ .core ≡ rxTick c level) (goesOn (sampled (c .rx) level)) (λ _. refl) (λ _. refl)
 
 module _ (s : DaliBitbangPhy) (level : Bool) (h : hears (s .core .bus .«bus_state») ≡ true) where
   act-keeps : (state : BusState) → hears state ≡ true → Keeps (s .core) level (actOf state s (heardOf (s .core) level) level .core)
-  unfolding actOf isRx machine.actOf hears pick
+  unfolding actOf hears pick
   act-keeps bus.Idle e = idle-keeps (s .core) level h
-  act-keeps bus.Rx e = rw (stored-core s (heardOf (s .core) level) level) (rx-keeps (s .core) level h)
+  act-keeps bus.Rx e = rx-keeps (s .core) level h s
   act-keeps bus.Tx e = absurd (false≢true e)
   act-keeps bus.CollisionTx e = absurd (false≢true e)
 
@@ -166,7 +160,7 @@ listener-drives s r = invariants s r .released
 
 -- one that is Idle stays so while the line is high
 pub quiet-next : (s : DaliBitbangPhy) → IsIdle s → IsIdle (tickOf s true)
-unfolding tickOf actOf isRx machine.actOf idleTick heardOf pick
+unfolding tickOf actOf idleTick silent fell heardOf pick
 quiet-next s idle = rw idle refl
 
 pub quiet : (n : ℕ) (level : ℕ → Bool) (s : DaliBitbangPhy) → IsIdle s → ((t : ℕ) → t < n → level t ≡ true) → IsIdle (heard n level s)

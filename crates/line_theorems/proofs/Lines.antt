@@ -2,7 +2,7 @@
 use Prim.Native.Nat.{ℕ, zero, suc, _≤_, _<_}
 use native.Mathlib.Omega.{arith}
 use native.Mathlib.Decide.{ℕ-discrete}
-use mathlib.Core.Bool.{Bool, true, false, false≢true, true≢false}
+use mathlib.Core.Bool.{Bool, true, false, false≢true, true≢false, not}
 use mathlib.Core.List.{List, [], _∷_}
 use mathlib.Core.Path.{_≡_, refl, sym, ap, _∙_}
 use lib.Dec.{eqb}
@@ -21,8 +21,9 @@ use Rattle.fsm.specs.declared.StartAnswer.the-variants.{Busy}
 use Rattle.fsm.specs.declared.Polled.{Polled}
 use Rattle.fsm.specs.Station.{newCore, newStation}
 use Rattle.fsm.specs.Ticking.{tickOf}
-use Rattle.fsm.specs.Starting.{isIdle, hears, lengthFits, startedWith, loadedWith, started, startTx, startAnswer}
-use Rattle.fsm.specs.Polling.{isTx, polled}
+use Rattle.fsm.specs.Starting.{lengthFits, startedWith, loadedWith, started, startTx, startAnswer}
+use Rattle.machine.specs.States.{isIdle, hears, isTx}
+use Rattle.fsm.specs.Polling.{polled}
 use Rattle.fsm.specs.Calls.{withPolicy, tookIdle, acknowledged, tookRx}
 use Rattle.reached.specs.Calls as station
 use Rattle.reached.specs.Calls.{Call, after, Reached}
@@ -64,7 +65,7 @@ module _ (s : DaliBitbangPhy) where
   poll-drives =
       let P : Polled → Type 0 = λ (x : Polled). drives (x .station) ≡ drives s in
       cases P (s .core .told .«tx_yielded») (λ _. refl)
-      (λ _. cases P (eqb (s .core .told .«tx_collision») 0) (λ _. cases P (isTx (s .core .bus .«bus_state»)) (λ _. refl) (λ _. refl)) (λ _. refl))
+      (λ _. cases P (not (eqb (s .core .told .«tx_collision») 0)) (λ _. refl) (λ _. cases P (isTx (s .core .bus .«bus_state»)) (λ _. refl) (λ _. refl)))
 
   take-drives : (mark : RxState) → drives (tookRx mark s .station) ≡ drives s
   unfolding tookRx acknowledged

@@ -1,6 +1,6 @@
 -- What stations have to tell, and how long they keep it: through ticks, and through calls that start nothing. Assumes nothing.
 use Prim.Native.Nat.{ℕ}
-use mathlib.Core.Bool.{Bool, true, false, false≢true}
+use mathlib.Core.Bool.{Bool, true, false, false≢true, not}
 use mathlib.Core.List.{List}
 use mathlib.Core.Path.{_≡_, refl, sym, _∙_, ap, subst}
 use lib.Dec.{eqb}
@@ -9,6 +9,8 @@ use Rattle.laws.specs.Pick.{pick}
 use Rattle.laws.proofs.Picked.{cases}
 use Rattle.event.specs.Event.{eventOf}
 use Rattle.halfbits.specs.Frame.{Frame}
+use Rattle.laws.proofs.Joined.{is}
+use Rattle.capture.specs.Samples.{bytesOf}
 use Rattle.machine.specs.declared.BusState.{BusState}
 use Rattle.machine.specs.declared.BusState.the-variants as bus
 use Rattle.machine.specs.declared.RxState.{RxState}
@@ -16,15 +18,14 @@ use Rattle.machine.specs.declared.RxState.the-variants.{Empty, Receiving, Compl
 use Rattle.machine.specs.declared.Bus.{Bus}
 use Rattle.machine.specs.declared.Told.{Told}
 use Rattle.machine.specs.Runs.{heardOf}
-use Rattle.machine.specs.Idle.{idleTick}
-use Rattle.machine.specs.Acting as machine
+use Rattle.machine.specs.Idle.{idleTick, silent, fell}
 use Rattle.fsm.specs.declared.DaliBitbangPhy.{DaliBitbangPhy}
 use Rattle.fsm.specs.declared.LastRx.{LastRx}
 use Rattle.fsm.specs.declared.Polled.{Polled}
 use Rattle.fsm.specs.declared.TxPollResult.the-variants.{Ok, Collision}
-use Rattle.fsm.specs.Starting.{hears}
-use Rattle.fsm.specs.Ticking.{isRx, actOf, tickOf}
-use Rattle.fsm.specs.Polling.{isTx, polled}
+use Rattle.machine.specs.States.{hears, isTx}
+use Rattle.fsm.specs.Ticking.{actOf, tickOf}
+use Rattle.fsm.specs.Polling.{polled}
 use Rattle.fsm.specs.Calls.{tookIdle, tookRx}
 use Rattle.bench_line.specs.declared.BenchLine.{BenchLine}
 use Rattle.bench_line.specs.Line.{stationAt}
@@ -109,11 +110,11 @@ module _ (s : DaliBitbangPhy) where
   clears h =
       let P : Polled → Type 0 = λ (x : Polled). Clashes 0 (x .station) in
       cases P (s .core .told .«tx_yielded») (λ e. absurd (false≢true (sym (h .yields) ∙ e)))
-      (λ _. cases P (eqb (s .core .told .«tx_collision») 0)
+      (λ _. cases P (not (eqb (s .core .told .«tx_collision») 0))
+      (λ _. record { unyielded = record { hearing = h .hearing; yields = h .yields }; collisions = refl })
       (λ e.
-      let none : Clashes 0 s = record { unyielded = h; collisions = eqb-true (s .core .told .«tx_collision») 0 e } in
-      cases P (isTx (s .core .bus .«bus_state»)) (λ _. none) (λ _. none))
-      (λ _. record { unyielded = record { hearing = h .hearing; yields = h .yields }; collisions = refl }))
+      let none : Clashes 0 s = record { unyielded = h; collisions = eqb-true (s .core .told .«tx_collision») 0 (is _ e) } in
+      cases P (isTx (s .core .bus .«bus_state»)) (λ _. none) (λ _. none)))
 
   -- A frame that was sent leaves nothing to tell.
   pub nothing-to-tell : IsIdle s → polled s .answer ≡ Ok → Clashes 0 s
@@ -121,9 +122,8 @@ module _ (s : DaliBitbangPhy) where
   nothing-to-tell idle =
       let P : Polled → Type 0 = λ (x : Polled). x .answer ≡ Ok → Clashes 0 s in
       cases P (s .core .told .«tx_yielded») (λ _ e. absurd (distinct (cc)))
-      (λ y. cases P (eqb (s .core .told .«tx_collision») 0)
-      (λ c _. record { unyielded = record { hearing = ap hears idle; yields = y }; collisions = eqb-true (s .core .told .«tx_collision») 0 c })
-      (λ _ e. absurd (distinct (cc))))
+      (λ y. cases P (not (eqb (s .core .told .«tx_collision») 0)) (λ _ e. absurd (distinct (cc)))
+      (λ c _. record { unyielded = record { hearing = ap hears idle; yields = y }; collisions = eqb-true (s .core .told .«tx_collision») 0 (is _ c) }))
 
 -- ---- whatever the station is asked
 is-poll : (k : Call) → Dec (k ≡ station.poll)
@@ -251,7 +251,7 @@ as-taken : (mark : RxState) (s s′ : DaliBitbangPhy) → s′ .«last_rx» ≡ 
 unfolding tookRx
 as-taken Empty s s′ e = (refl, refl)
 as-taken Receiving s s′ e = (refl, refl)
-as-taken Completed s s′ e = (refl, ap (λ (l : LastRx). eventOf (l .samples) (l .«sample_count») (l .«pre_idle_ticks»)) e)
+as-taken Completed s s′ e = (refl, ap (λ (l : LastRx). eventOf (bytesOf (l .samples)) (l .«sample_count») (l .«pre_idle_ticks»)) e)
 
 module _ {frame : Frame} (s : DaliBitbangPhy) where
   same-event : (s′ : DaliBitbangPhy) → s′ .core .told .«rx_state» ≡ s .core .told .«rx_state» → s′ .«last_rx» ≡ s .«last_rx» → Event frame s → Event frame s′
@@ -263,7 +263,7 @@ module _ {frame : Frame} (s : DaliBitbangPhy) where
       }
 
   event-ticks : IsIdle s → Event frame s → Event frame (tickOf s true)
-  unfolding tickOf actOf isRx machine.actOf idleTick heardOf pick
+  unfolding tickOf actOf idleTick silent fell heardOf pick
   event-ticks idle h = same-event (tickOf s true) (rw idle refl) (rw idle refl) h
 
   event-stays : (k : Call) → isBetween k ≡ true → (k ≡ station.take-rx → ⊥) → (k ≡ station.acknowledge → ⊥) → Event frame s → Event frame (after k s)

@@ -1,9 +1,15 @@
 -- Document 01, "Machine": becoming Idle. Assumes nothing.
 use mathlib.Core.Bool.{true, false}
-use Rattle.machine.specs.Groups.{withBus}
+use Rattle.machine.specs.Fields.{withBus}
 use Rattle.machine.specs.declared.BusState.the-variants.{Idle}
 use Rattle.machine.specs.declared.Core.{Core}
 
 -- The idle count is set to the current high run. The line is released, no low tick is remembered, and nothing is being sent.
 unfoldable pub idled : Core → Core
-idled c = withBus c (record { idlecnt = c .runs .«high_run_ticks»; «bus_state» = Idle; «rx_debounce» = 0; «driven_high» = true; «tx_busy» = false })
+idled c = withBus c (record {
+  idlecnt = c .runs .«high_run_ticks»;
+  «bus_state» = Idle;
+  «rx_debounce» = 0;
+  «driven_high» = true;
+  «tx_busy» = false;
+})

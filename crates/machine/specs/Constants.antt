@@ -1,10 +1,9 @@
 -- The public constants, which are source document 000's. Assumes nothing.
 use Rattle.machine.specs.declared.PublicConstants.{PublicConstants}
 
--- the last of 64 slots; a break is 1,200 microseconds, rounded up to ticks
+-- a break is 1,200 microseconds, rounded up to ticks
 abbrev pub publicConstants : PublicConstants
 publicConstants = record {
-  «max_rx_idx» = 63;
   «rx_idle_line_high_ticks» = 16;
   «rx_start_debounce_ticks» = 2;
   «tx_half_bit_ticks» = 4;

@@ -1,12 +1,10 @@
 pub mod Runs
 pub mod Idle
-pub mod Sampling
 pub mod Sending
 pub mod Collision
 pub mod BecomingIdle
 pub mod Starting
-pub mod Acting
-pub mod Storing
-pub mod Groups
+pub mod Fields
+pub mod States
 pub mod Constants
 pub mod Numbers

@@ -2,7 +2,7 @@
 use Prim.Native.Nat.{ℕ, _+_, min}
 use mathlib.Core.Bool.{Bool}
 use Rattle.laws.specs.Pick.{pick}
-use Rattle.machine.specs.Groups.{withRuns}
+use Rattle.machine.specs.Fields.{withRuns}
 use Rattle.machine.specs.declared.Runs.{Runs}
 use Rattle.machine.specs.declared.Core.{Core}
 

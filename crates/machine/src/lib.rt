@@ -1,24 +1,18 @@
-// The machine of source document 000 (fsm.rs) without its captures: what ticks and starts do to the counters and marks of a station.
+// The machine of source document 000 (fsm.rs) from core to core: what a tick does in Idle, Tx and Collision, what each tick does first, and what
+// a start does. Rx, which writes to captures, is the station's (fsm).
 ghost use mathlib.Core.Path.{_≡_};
-ghost use Prim.Native.Nat.{_+_, _-_, _*_, _%_, min};
-ghost use Rattle.laws.specs.Bit.{bit};
+ghost use Prim.Native.Nat.{_+_, _-_, _%_, _<_, min};
 ghost use Rattle.machine.specs.Constants.{publicConstants};
 ghost use Rattle.machine.specs.Numbers.{busStateNumber, rxStateNumber, collisionPolicyNumber};
-ghost use Rattle.machine.specs.Groups.{received};
+ghost use Rattle.machine.specs.States.{isIdle, hears, isTx};
 ghost use Rattle.machine.specs.Runs.{heardOf};
-ghost use Rattle.machine.specs.BecomingIdle.{idled};
-ghost use Rattle.machine.specs.Sampling.{highRun, sampled, finished, rxTick};
-ghost use Rattle.machine.specs.Idle.{entered, idleTick};
-ghost use Rattle.machine.specs.Sending.{watchesOf, clashOf, releasesAt, txStep, armed, yielded, clashed, held, driven, txTick};
+ghost use Rattle.machine.specs.Idle.{entered, silent, fell, idleTick};
+ghost use Rattle.machine.specs.Sending.{halfBitsIn, storeOf, releasesAt, watchesOf, clashOf, armedStep, armed, yielded, clashed, held, driven, stepped, txTick};
 ghost use Rattle.machine.specs.Collision.{broke, collisionTick};
+ghost use Rattle.machine.specs.BecomingIdle.{idled};
 ghost use Rattle.machine.specs.Starting.{loaded};
-ghost use Rattle.machine.specs.Acting.{actOf};
-ghost use Rattle.machine.specs.Storing.{rxStores, storesOf};
-use event::DALI_RX_SAMPLE_BUF_LEN;
 use event::PHY_TICK_US;
 use halfbits::HalfBitBuffer;
-
-pub const MAX_RX_IDX: usize = DALI_RX_SAMPLE_BUF_LEN - 1;
 
 pub const RX_IDLE_LINE_HIGH_TICKS: u8 = 16;
 
@@ -39,12 +33,14 @@ const COLLISION_CHECK_TICK: u8 = COLLISION_BREAK_TICKS + 2;
 
 const BACKWARD_FRAME_HALF_BITS: u8 = 22;
 
+// As many as the bytes of a buffer hold.
+const STORED_HALF_BITS: u8 = 8 * HalfBitBuffer::DATA_LEN as u8;
+
 // Nobody calls this: its promise says what each public constant is.
 fn constants() -> PublicConstants
     ensures { λ r. ⌜ r ≡ publicConstants ⌝ }
 {
     PublicConstants {
-        max_rx_idx: MAX_RX_IDX,
         rx_idle_line_high_ticks: RX_IDLE_LINE_HIGH_TICKS,
         rx_start_debounce_ticks: RX_START_DEBOUNCE_TICKS,
         tx_half_bit_ticks: TX_HALF_BIT_TICKS,
@@ -54,7 +50,6 @@ fn constants() -> PublicConstants
 }
 
 struct PublicConstants {
-    max_rx_idx: usize,
     rx_idle_line_high_ticks: u8,
     rx_start_debounce_ticks: u8,
     tx_half_bit_ticks: u32,
@@ -114,6 +109,42 @@ fn collision_policy_number(collision_policy: CollisionPolicy) -> u8
     }
 }
 
+// Questions about a state, since two states can't be compared.
+impl BusState {
+    pub fn is_idle(self) -> bool
+        ensures { λ r. ⌜ r ≡ isIdle self ⌝ }
+    {
+        match self {
+            BusState::Idle => true,
+            BusState::Rx => false,
+            BusState::Tx => false,
+            BusState::CollisionTx => false,
+        }
+    }
+
+    pub fn is_idle_or_rx(self) -> bool
+        ensures { λ r. ⌜ r ≡ hears self ⌝ }
+    {
+        match self {
+            BusState::Idle => true,
+            BusState::Rx => true,
+            BusState::Tx => false,
+            BusState::CollisionTx => false,
+        }
+    }
+
+    pub fn is_tx(self) -> bool
+        ensures { λ r. ⌜ r ≡ isTx self ⌝ }
+    {
+        match self {
+            BusState::Idle => false,
+            BusState::Rx => false,
+            BusState::Tx => true,
+            BusState::CollisionTx => false,
+        }
+    }
+}
+
 // How long the line has had its level.
 pub struct Runs {
     pub high_run_ticks: u16,
@@ -156,48 +187,53 @@ pub struct Tx {
     pub tx_answer: bool,
 }
 
-// The half-bits to be sent.
+// The half-bits to be sent, the first on top of 64, and how many. As numbers they stay in registers, where an array would be copied at each
+// tick. The length takes as much room as the half-bits, since a gap behind it would be copied byte by byte.
 pub struct TxHb {
-    pub tx_hb_data: [u8; HalfBitBuffer::DATA_LEN],
-    pub tx_hb_len: u8,
+    pub tx_hb_bits: u64,
+    pub tx_hb_len: u64,
 }
 
-// A station without its arrays. No group has a gap between its fields: a gap costs the compiler's copies more than it holds.
+// A station without its captures and half-bits. A change of a group is one literal that names all its fields: the compiler then keeps the
+// fields apart. The order of the groups, and that none has a gap, makes the least of the copies of a station that is lent.
 pub struct Core {
+    pub tx: Tx,
+    pub collision_policy: CollisionPolicy,
     pub runs: Runs,
     pub bus: Bus,
     pub rx: Rx,
     pub told: Told,
-    pub tx: Tx,
-    pub collision_policy: CollisionPolicy,
 }
 
-// What a tick of Tx does.
-pub enum TxStep {
-    Arm,
-    Yield,
-    End,
-    Clash,
-    Hold,
-    Drive(bool),
-}
-
-fn saturating_inc16(x: u16) -> u16
-    ensures { λ r. ⌜ r ≡ min (x + 1) 65535 ⌝ }
+// A sum takes fewer steps than a choice between two answers: 1 is added, or 0 at the greatest.
+fn room16(x: u16) -> u16
+    ensures { λ r. ⌜ r ≡ min (x + 1) 65535 - x ⌝ }
 {
     if x < 65_535 {
-        return x + 1;
+        return 1;
     }
-    65_535
+    0
 }
 
-fn saturating_inc8(x: u8) -> u8
-    ensures { λ r. ⌜ r ≡ min (x + 1) 255 ⌝ }
+pub fn saturating_inc16(x: u16) -> u16
+    ensures { λ r. ⌜ r ≡ min (x + 1) 65535 ⌝ }
+{
+    x + room16(x)
+}
+
+fn room8(x: u8) -> u8
+    ensures { λ r. ⌜ r ≡ min (x + 1) 255 - x ⌝ }
 {
     if x < 255 {
-        return x + 1;
+        return 1;
     }
-    255
+    0
+}
+
+pub fn saturating_inc8(x: u8) -> u8
+    ensures { λ r. ⌜ r ≡ min (x + 1) 255 ⌝ }
+{
+    x + room8(x)
 }
 
 fn saturating_dec8(x: u8) -> u8
@@ -209,7 +245,7 @@ fn saturating_dec8(x: u8) -> u8
     x - 1
 }
 
-fn wrapping_inc8(x: u8) -> u8
+pub fn wrapping_inc8(x: u8) -> u8
     ensures { λ r. ⌜ r ≡ (x + 1) % 256 ⌝ }
 {
     if x < 255 {
@@ -228,138 +264,60 @@ fn pre_idle(idlecnt: u16) -> u8
     (idlecnt % 256) as u8
 }
 
-fn next_pos(rx_pos: u16) -> u16
-    ensures { λ r. ⌜ r ≡ min («rx_pos» + 1) 63 ⌝ }
+impl TxHb {
+    // What a start loads.
+    pub fn of(halfbits: HalfBitBuffer) -> TxHb
+        ensures { λ r. ⌜ r ≡ storeOf halfbits ⌝ }
+    {
+        let data = halfbits.data;
+        TxHb {
+            tx_hb_bits: half_bits_in(data),
+            tx_hb_len: halfbits.length as u64,
+        }
+    }
+}
+
+// The half-bits of the bytes, first byte first, on top of 64.
+fn half_bits_in(data: [u8; HalfBitBuffer::DATA_LEN]) -> u64
+    ensures { λ r. ⌜ r ≡ halfBitsIn «data» ⌝ }
 {
-    if rx_pos < MAX_RX_IDX as u16 {
-        return rx_pos + 1;
+    let mut bits: u64 = 0;
+    let mut at = 0;
+    while at < HalfBitBuffer::DATA_LEN {
+        bits = bits * 256 + data[at] as u64;
+        at += 1;
     }
-    MAX_RX_IDX as u16
+    bits * 256
 }
 
-impl Rx {
-    // The byte with one sample more, at its low end.
-    pub fn shifted(self, bus_is_high: bool) -> u8
-        ensures { λ r. ⌜ r ≡ self .«rx_byte» % 128 * 2 + bit «bus_is_high» ⌝ }
-    {
-        let twice = self.rx_byte % 128 * 2;
-        if bus_is_high {
-            return twice + 1;
-        }
-        twice
-    }
-
-    fn high_run(self, bus_is_high: bool) -> u8
-        ensures { λ r. ⌜ r ≡ highRun self «bus_is_high» ⌝ }
-    {
-        if bus_is_high {
-            return saturating_inc8(self.rx_idle);
-        }
-        0
-    }
-
-    // One sample more. The eighth fills a byte and moves on to the next.
-    pub fn with_sample(self, bus_is_high: bool) -> Rx
-        ensures { λ r. ⌜ r ≡ sampled self «bus_is_high» ⌝ }
-    {
-        let mut rx = self;
-        let byte = self.shifted(bus_is_high);
-        let idle = self.high_run(bus_is_high);
-        rx.rx_byte = byte;
-        rx.rx_idle = idle;
-        let count = rx.rx_bit_cnt;
-        if count == 7 {
-            let pos = next_pos(rx.rx_pos);
-            rx.rx_pos = pos;
-            rx.rx_bit_cnt = 0;
-            return rx;
-        }
-        let more = wrapping_inc8(count);
-        rx.rx_bit_cnt = more;
-        rx
-    }
-
-    // Whether the next sample fills a byte or completes the capture.
-    fn stores(self, bus_is_high: bool) -> bool
-        ensures { λ r. ⌜ r ≡ rxStores self «bus_is_high» ⌝ }
-    {
-        if self.rx_bit_cnt == 7 {
-            return true;
-        }
-        RX_IDLE_LINE_HIGH_TICKS <= self.high_run(bus_is_high)
-    }
-}
-
-fn watches(collision_policy: CollisionPolicy, tx_hb_len: u8) -> bool
+fn watches(collision_policy: CollisionPolicy, tx_hb_len: u64) -> bool
     ensures { λ r. ⌜ r ≡ watchesOf «collision_policy» «tx_hb_len» ⌝ }
 {
     match collision_policy {
-        CollisionPolicy::Auto => tx_hb_len != BACKWARD_FRAME_HALF_BITS,
+        CollisionPolicy::Auto => tx_hb_len != BACKWARD_FRAME_HALF_BITS as u64,
         CollisionPolicy::Off => false,
         CollisionPolicy::On => true,
     }
 }
 
-// The half-bit at a place in its byte: whether the line is left high.
-fn releases(byte: u8, tx_hb_cnt: u8) -> bool
-    ensures { λ r. ⌜ r ≡ releasesAt byte «tx_hb_cnt» ⌝ }
+// Whether the line is left high in a half-bit.
+fn releases(tx_hb: TxHb, tx_hb_cnt: u8) -> bool
+    requires { ⌜ «tx_hb_cnt» < 64 ⌝ }
+    ensures { λ r. ⌜ r ≡ releasesAt «tx_hb» «tx_hb_cnt» ⌝ }
 {
-    (byte >> (7 - tx_hb_cnt % 8)) % 2 == 0
+    (tx_hb.tx_hb_bits >> (63 - tx_hb_cnt)) % 2 == 0
 }
 
 impl Tx {
     // A low line where this station released it. Only the third and the fourth tick of a half-bit are watched: on them two ticks or one
     // are left of it.
-    fn collision_detected(self, policy: CollisionPolicy, tx_hb_len: u8, bus_is_high: bool) -> bool
+    fn collision_detected(self, policy: CollisionPolicy, tx_hb_len: u64, bus_is_high: bool) -> bool
         ensures { λ r. ⌜ r ≡ clashOf self policy «tx_hb_len» «bus_is_high» ⌝ }
     {
-        if bus_is_high {
-            return false;
-        }
-        if self.tx_high == 0 {
-            return false;
-        }
-        if watches(policy, tx_hb_len) {
-            let left = self.tx_sp_cnt;
-            if left == 1 {
-                return true;
-            }
-            return left == 2;
-        }
-        false
-    }
-
-    // What this tick does: the first rule that fits.
-    fn step(self, policy: CollisionPolicy, tx_hb: TxHb, bus_is_high: bool) -> TxStep
-        ensures { λ r. ⌜ r ≡ txStep self policy «tx_hb» «bus_is_high» ⌝ }
-    {
-        if self.tx_armed != 0 {
-            if bus_is_high {
-                return TxStep::Arm;
-            }
-            if self.tx_answer {
-                return TxStep::Arm;
-            }
-            return TxStep::Yield;
-        }
-        let count = self.tx_hb_cnt;
-        let len = tx_hb.tx_hb_len;
-        if len <= count {
-            return TxStep::End;
-        }
-        if self.collision_detected(policy, len, bus_is_high) {
-            return TxStep::Clash;
-        }
-        if self.tx_sp_cnt != 0 {
-            return TxStep::Hold;
-        }
-        let pos = (count / 8) as usize;
-        if HalfBitBuffer::DATA_LEN <= pos {
-            return TxStep::End;
-        }
-        let data = tx_hb.tx_hb_data;
-        let byte = data[pos];
-        TxStep::Drive(releases(byte, count))
+        watches(policy, tx_hb_len)
+            && self.tx_high != 0
+            && !bus_is_high
+            && (self.tx_sp_cnt == 1 || self.tx_sp_cnt == 2)
     }
 }
 
@@ -369,23 +327,27 @@ impl Core {
         ensures { λ r. ⌜ r ≡ heardOf self «bus_is_high» ⌝ }
     {
         let mut core = self;
-        let mut runs = core.runs;
+        let old = core.runs;
         if bus_is_high {
-            let high = saturating_inc16(runs.high_run_ticks);
-            runs.high_run_ticks = high;
-            runs.low_run_ticks = 0;
+            let high = saturating_inc16(old.high_run_ticks);
+            let runs = Runs {
+                high_run_ticks: high,
+                low_run_ticks: 0,
+            };
             core.runs = runs;
             return core;
         }
-        let low = saturating_inc16(runs.low_run_ticks);
-        runs.high_run_ticks = 0;
-        runs.low_run_ticks = low;
+        let low = saturating_inc16(old.low_run_ticks);
+        let runs = Runs {
+            high_run_ticks: 0,
+            low_run_ticks: low,
+        };
         core.runs = runs;
         core
     }
 
     // IEC 62386-101, 7.2.2: the silence is counted from the line's last low, and not from here.
-    fn set_bus_idle(self) -> Core
+    pub fn set_bus_idle(self) -> Core
         ensures { λ r. ⌜ r ≡ idled self ⌝ }
     {
         let mut core = self;
@@ -401,26 +363,13 @@ impl Core {
         core
     }
 
-    // What the calls tell of, with another mark of the capture.
-    pub fn in_rx_state(self, rx_state: RxState) -> Told
-        ensures { λ r. ⌜ r ≡ received self «rx_state» ⌝ }
-    {
-        let told = self.told;
-        Told {
-            tx_pre_idle: told.tx_pre_idle,
-            rx_state,
-            tx_collision: told.tx_collision,
-            tx_idle_after_break: told.tx_idle_after_break,
-            tx_yielded: told.tx_yielded,
-        }
-    }
-
-    // The low ticks that the debounce waited for are the capture's first samples.
-    fn enter_rx(self) -> Core
+    // Rx with the low ticks that the debounce waited for as its first samples.
+    fn start_rx(self) -> Core
         ensures { λ r. ⌜ r ≡ entered self ⌝ }
     {
         let mut core = self;
         let old = core.bus;
+        let was = core.told;
         let pre = pre_idle(old.idlecnt);
         let rx = Rx {
             rx_pos: 0,
@@ -436,69 +385,95 @@ impl Core {
             driven_high: old.driven_high,
             tx_busy: old.tx_busy,
         };
-        let told = self.in_rx_state(RxState::Receiving);
+        let told = Told {
+            tx_pre_idle: was.tx_pre_idle,
+            rx_state: RxState::Receiving,
+            tx_collision: was.tx_collision,
+            tx_idle_after_break: was.tx_idle_after_break,
+            tx_yielded: was.tx_yielded,
+        };
         core.rx = rx;
         core.bus = bus;
         core.told = told;
         core
     }
 
-    fn tick_idle(self, bus_is_high: bool) -> Core
+    pub fn tick_idle(self, bus_is_high: bool) -> Core
         ensures { λ r. ⌜ r ≡ idleTick self «bus_is_high» ⌝ }
     {
-        let mut core = self;
-        let mut bus = core.bus;
         if bus_is_high {
-            let idlecnt = saturating_inc16(bus.idlecnt);
-            bus.idlecnt = idlecnt;
-            bus.rx_debounce = 0;
-            core.bus = bus;
-            return core;
+            return self.count_idle();
         }
-        let debounce = saturating_inc8(bus.rx_debounce);
-        bus.rx_debounce = debounce;
+        let low = self.debounce();
+        let bus = low.bus;
+        if bus.rx_debounce < RX_START_DEBOUNCE_TICKS {
+            return low;
+        }
+        low.start_rx()
+    }
+
+    // A high tick of Idle.
+    pub fn count_idle(self) -> Core
+        ensures { λ r. ⌜ r ≡ silent self ⌝ }
+    {
+        let mut core = self;
+        let old = core.bus;
+        let bus_state = old.bus_state;
+        let idlecnt = saturating_inc16(old.idlecnt);
+        let bus = Bus {
+            idlecnt,
+            bus_state,
+            rx_debounce: 0,
+            driven_high: old.driven_high,
+            tx_busy: old.tx_busy,
+        };
         core.bus = bus;
-        if debounce < RX_START_DEBOUNCE_TICKS {
-            return core;
-        }
-        core.enter_rx()
+        core
     }
 
-    // The capture is whole: one byte more for the idle line, and the count is told.
-    pub fn finish_rx(self, rx: Rx) -> Core
-        ensures { λ r. ⌜ r ≡ finished self rx ⌝ }
+    // A low tick of Idle is remembered.
+    fn debounce(self) -> Core
+        ensures { λ r. ⌜ r ≡ fell self ⌝ }
     {
         let mut core = self;
-        let mut whole = rx;
-        let count = saturating_inc16(whole.rx_pos);
-        whole.rx_pos = count;
-        let told = self.in_rx_state(RxState::Completed);
-        core.rx = whole;
-        core.told = told;
-        core.set_bus_idle()
+        let old = core.bus;
+        let bus_state = old.bus_state;
+        let debounce = saturating_inc8(old.rx_debounce);
+        let bus = Bus {
+            idlecnt: old.idlecnt,
+            bus_state,
+            rx_debounce: debounce,
+            driven_high: old.driven_high,
+            tx_busy: old.tx_busy,
+        };
+        core.bus = bus;
+        core
     }
 
-    fn tick_rx(self, bus_is_high: bool) -> Core
-        ensures { λ r. ⌜ r ≡ rxTick self «bus_is_high» ⌝ }
+    fn tick_tx_armed(self, bus_is_high: bool) -> Core
+        ensures { λ r. ⌜ r ≡ stepped (armedStep (self .tx) «bus_is_high») self ⌝ }
     {
-        let mut core = self;
-        let old = core.rx;
-        let rx = old.with_sample(bus_is_high);
-        if rx.rx_idle < RX_IDLE_LINE_HIGH_TICKS {
-            core.rx = rx;
-            return core;
+        let tx = self.tx;
+        if !bus_is_high && !tx.tx_answer {
+            return self.yield_tx();
         }
-        core.finish_rx(rx)
+        self.stay_armed()
     }
 
-    // An armed tick that went well.
-    fn tick_tx_armed(self) -> Core
+    // An armed tick that does not yield.
+    fn stay_armed(self) -> Core
         ensures { λ r. ⌜ r ≡ armed self ⌝ }
     {
         let mut core = self;
-        let mut tx = core.tx;
-        let left = saturating_dec8(tx.tx_armed);
-        tx.tx_armed = left;
+        let old = core.tx;
+        let left = saturating_dec8(old.tx_armed);
+        let tx = Tx {
+            tx_hb_cnt: old.tx_hb_cnt,
+            tx_sp_cnt: old.tx_sp_cnt,
+            tx_high: old.tx_high,
+            tx_armed: left,
+            tx_answer: old.tx_answer,
+        };
         core.tx = tx;
         core
     }
@@ -508,10 +483,23 @@ impl Core {
         ensures { λ r. ⌜ r ≡ yielded self ⌝ }
     {
         let mut core = self;
-        let mut told = core.told;
-        let mut tx = core.tx;
-        told.tx_yielded = true;
-        tx.tx_armed = 0;
+        let was = core.told;
+        let old = core.tx;
+        let rx_state = was.rx_state;
+        let told = Told {
+            tx_pre_idle: was.tx_pre_idle,
+            rx_state,
+            tx_collision: was.tx_collision,
+            tx_idle_after_break: was.tx_idle_after_break,
+            tx_yielded: true,
+        };
+        let tx = Tx {
+            tx_hb_cnt: old.tx_hb_cnt,
+            tx_sp_cnt: old.tx_sp_cnt,
+            tx_high: old.tx_high,
+            tx_armed: 0,
+            tx_answer: old.tx_answer,
+        };
         core.told = told;
         core.tx = tx;
         let idle = core.set_bus_idle();
@@ -522,19 +510,31 @@ impl Core {
         ensures { λ r. ⌜ r ≡ clashed self ⌝ }
     {
         let mut core = self;
-        let mut told = core.told;
-        let mut tx = core.tx;
-        let old = core.bus;
-        let collision = saturating_inc8(told.tx_collision);
-        told.tx_collision = collision;
-        told.tx_idle_after_break = false;
-        tx.tx_sp_cnt = 0;
+        let was = core.told;
+        let old = core.tx;
+        let on = core.bus;
+        let rx_state = was.rx_state;
+        let collision = saturating_inc8(was.tx_collision);
+        let told = Told {
+            tx_pre_idle: was.tx_pre_idle,
+            rx_state,
+            tx_collision: collision,
+            tx_idle_after_break: false,
+            tx_yielded: was.tx_yielded,
+        };
+        let tx = Tx {
+            tx_hb_cnt: old.tx_hb_cnt,
+            tx_sp_cnt: 0,
+            tx_high: old.tx_high,
+            tx_armed: old.tx_armed,
+            tx_answer: old.tx_answer,
+        };
         let bus = Bus {
-            idlecnt: old.idlecnt,
+            idlecnt: on.idlecnt,
             bus_state: BusState::CollisionTx,
-            rx_debounce: old.rx_debounce,
-            driven_high: old.driven_high,
-            tx_busy: old.tx_busy,
+            rx_debounce: on.rx_debounce,
+            driven_high: on.driven_high,
+            tx_busy: on.tx_busy,
         };
         core.told = told;
         core.tx = tx;
@@ -547,9 +547,15 @@ impl Core {
         ensures { λ r. ⌜ r ≡ held self ⌝ }
     {
         let mut core = self;
-        let mut tx = core.tx;
-        let left = saturating_dec8(tx.tx_sp_cnt);
-        tx.tx_sp_cnt = left;
+        let old = core.tx;
+        let left = saturating_dec8(old.tx_sp_cnt);
+        let tx = Tx {
+            tx_hb_cnt: old.tx_hb_cnt,
+            tx_sp_cnt: left,
+            tx_high: old.tx_high,
+            tx_armed: old.tx_armed,
+            tx_answer: old.tx_answer,
+        };
         core.tx = tx;
         core
     }
@@ -559,32 +565,53 @@ impl Core {
         ensures { λ r. ⌜ r ≡ driven self high ⌝ }
     {
         let mut core = self;
-        let mut bus = core.bus;
-        let mut tx = core.tx;
-        let count = wrapping_inc8(tx.tx_hb_cnt);
-        tx.tx_hb_cnt = count;
-        tx.tx_sp_cnt = TX_HALF_BIT_TICKS as u8 - 1;
-        tx.tx_high = high as u8;
-        bus.driven_high = high;
+        let on = core.bus;
+        let old = core.tx;
+        let bus_state = on.bus_state;
+        let count = wrapping_inc8(old.tx_hb_cnt);
+        let bus = Bus {
+            idlecnt: on.idlecnt,
+            bus_state,
+            rx_debounce: on.rx_debounce,
+            driven_high: high,
+            tx_busy: on.tx_busy,
+        };
+        let tx = Tx {
+            tx_hb_cnt: count,
+            tx_sp_cnt: TX_HALF_BIT_TICKS as u8 - 1,
+            tx_high: high as u8,
+            tx_armed: old.tx_armed,
+            tx_answer: old.tx_answer,
+        };
         core.bus = bus;
         core.tx = tx;
         core
     }
 
-    fn tick_tx(self, tx_hb: TxHb, bus_is_high: bool) -> Core
+    // The first rule that fits.
+    pub fn tick_tx(self, tx_hb: TxHb, bus_is_high: bool) -> Core
         ensures { λ r. ⌜ r ≡ txTick self «tx_hb» «bus_is_high» ⌝ }
     {
         let tx = self.tx;
         let policy = self.collision_policy;
-        let step = tx.step(policy, tx_hb, bus_is_high);
-        match step {
-            TxStep::Arm => self.tick_tx_armed(),
-            TxStep::Yield => self.yield_tx(),
-            TxStep::End => self.set_bus_idle(),
-            TxStep::Clash => self.enter_collision_tx(),
-            TxStep::Hold => self.hold_half_bit(),
-            TxStep::Drive(high) => self.drive_half_bit(high),
+        let count = tx.tx_hb_cnt;
+        let len = tx_hb.tx_hb_len;
+        if tx.tx_armed != 0 {
+            return self.tick_tx_armed(bus_is_high);
         }
+        if len <= count as u64 {
+            return self.set_bus_idle();
+        }
+        if tx.collision_detected(policy, len, bus_is_high) {
+            return self.enter_collision_tx();
+        }
+        if tx.tx_sp_cnt != 0 {
+            return self.hold_half_bit();
+        }
+        if STORED_HALF_BITS <= count {
+            return self.set_bus_idle();
+        }
+        self.drive_half_bit(releases(tx_hb, count))
     }
 
     // IEC 62386-101, 9.1.4: whoever finds the line high after its own break may go first.
@@ -592,8 +619,15 @@ impl Core {
         ensures { λ r. ⌜ r ≡ broke self «bus_is_high» ⌝ }
     {
         let mut core = self;
-        let mut told = core.told;
-        told.tx_idle_after_break = bus_is_high;
+        let was = core.told;
+        let rx_state = was.rx_state;
+        let told = Told {
+            tx_pre_idle: was.tx_pre_idle,
+            rx_state,
+            tx_collision: was.tx_collision,
+            tx_idle_after_break: bus_is_high,
+            tx_yielded: was.tx_yielded,
+        };
         core.told = told;
         let idle = core.set_bus_idle();
         if bus_is_high {
@@ -602,50 +636,34 @@ impl Core {
         idle.tick_idle(false)
     }
 
-    fn tick_collision_tx(self, bus_is_high: bool) -> Core
+    pub fn tick_collision_tx(self, bus_is_high: bool) -> Core
         ensures { λ r. ⌜ r ≡ collisionTick self «bus_is_high» ⌝ }
     {
         let mut core = self;
-        let mut bus = core.bus;
-        let mut tx = core.tx;
-        let ticks = wrapping_inc8(tx.tx_sp_cnt);
-        tx.tx_sp_cnt = ticks;
+        let on = core.bus;
+        let old = core.tx;
+        let ticks = wrapping_inc8(old.tx_sp_cnt);
+        let tx = Tx {
+            tx_hb_cnt: old.tx_hb_cnt,
+            tx_sp_cnt: ticks,
+            tx_high: old.tx_high,
+            tx_armed: old.tx_armed,
+            tx_answer: old.tx_answer,
+        };
         core.tx = tx;
         if COLLISION_CHECK_TICK <= ticks {
             return core.leave_collision_tx(bus_is_high);
         }
-        bus.driven_high = COLLISION_BREAK_TICKS < ticks;
+        let bus_state = on.bus_state;
+        let bus = Bus {
+            idlecnt: on.idlecnt,
+            bus_state,
+            rx_debounce: on.rx_debounce,
+            driven_high: COLLISION_BREAK_TICKS < ticks,
+            tx_busy: on.tx_busy,
+        };
         core.bus = bus;
         core
-    }
-
-    // What a tick does by state, but for the bytes of a capture.
-    pub fn act(self, tx_hb: TxHb, bus_is_high: bool) -> Core
-        ensures { λ r. ⌜ r ≡ actOf (self .bus .«bus_state») self «tx_hb» «bus_is_high» ⌝ }
-    {
-        let bus = self.bus;
-        let bus_state = bus.bus_state;
-        match bus_state {
-            BusState::Idle => self.tick_idle(bus_is_high),
-            BusState::Rx => self.tick_rx(bus_is_high),
-            BusState::Tx => self.tick_tx(tx_hb, bus_is_high),
-            BusState::CollisionTx => self.tick_collision_tx(bus_is_high),
-        }
-    }
-
-    // Whether the tick writes to a capture: it fills a byte, or it is the last.
-    pub fn stores(self, bus_is_high: bool) -> bool
-        ensures { λ r. ⌜ r ≡ storesOf (self .bus .«bus_state») (self .rx) «bus_is_high» ⌝ }
-    {
-        let bus = self.bus;
-        let rx = self.rx;
-        let bus_state = bus.bus_state;
-        match bus_state {
-            BusState::Idle => false,
-            BusState::Rx => rx.stores(bus_is_high),
-            BusState::Tx => false,
-            BusState::CollisionTx => false,
-        }
     }
 
     // A start that is not refused.
@@ -653,26 +671,29 @@ impl Core {
         ensures { λ r. ⌜ r ≡ loaded self answer ⌝ }
     {
         let mut core = self;
-        let old = core.bus;
-        let mut tx = core.tx;
+        let on = core.bus;
+        let old = core.tx;
         let bus = Bus {
-            idlecnt: old.idlecnt,
+            idlecnt: on.idlecnt,
             bus_state: BusState::Tx,
-            rx_debounce: old.rx_debounce,
-            driven_high: old.driven_high,
+            rx_debounce: on.rx_debounce,
+            driven_high: on.driven_high,
             tx_busy: true,
         };
         let told = Told {
-            tx_pre_idle: old.idlecnt,
+            tx_pre_idle: on.idlecnt,
             rx_state: RxState::Empty,
             tx_collision: 0,
             tx_idle_after_break: false,
             tx_yielded: false,
         };
-        tx.tx_hb_cnt = 0;
-        tx.tx_sp_cnt = 0;
-        tx.tx_armed = TX_ARM_LEAD_TICKS;
-        tx.tx_answer = answer;
+        let tx = Tx {
+            tx_hb_cnt: 0,
+            tx_sp_cnt: 0,
+            tx_high: old.tx_high,
+            tx_armed: TX_ARM_LEAD_TICKS,
+            tx_answer: answer,
+        };
         core.bus = bus;
         core.told = told;
         core.tx = tx;

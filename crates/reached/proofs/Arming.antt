@@ -2,34 +2,33 @@
 use Prim.Native.Nat.{ℕ, suc, _+_, _/_, _≤_, _<_}
 use native.Mathlib.Omega.{arith}
 use native.Mathlib.Nat.{zero-add}
-use mathlib.Core.Bool.{Bool, true, false, false≢true}
+use mathlib.Core.Bool.{Bool, true, false, false≢true, not, _&&_}
 use mathlib.Core.List.{List}
 use mathlib.Core.Path.{_≡_, refl, sym, _∙_, ap}
-use lib.Dec.{eqb}
+use lib.Dec.{eqb, leb}
 use lib.ListN.{length, getD, replicate, length-replicate}
 use borrow.Author.Tests.{eqb-false, eq-eqb, ne-eqb, lt-leb}
 use Rattle.laws.specs.Pick.{pick}
+use Rattle.laws.proofs.Joined.{parts, is-not}
 use Rattle.laws.proofs.Picked.{on-true, on-false, cases}
 use Rattle.halfbits.specs.declared.HalfBitBuffer.{HalfBitBuffer}
 use Rattle.halfbits.specs.Wave.{low}
 use Rattle.machine.specs.declared.BusState.{BusState}
 use Rattle.machine.specs.declared.BusState.the-variants as bus
-use Rattle.machine.specs.declared.TxStep.{TxStep}
-use Rattle.machine.specs.declared.TxStep.the-variants.{Arm, Yield, Drive}
 use Rattle.machine.specs.declared.TxHb.{TxHb}
 use Rattle.machine.specs.Runs.{heardOf}
 use Rattle.machine.specs.BecomingIdle.{idled}
-use Rattle.machine.specs.Idle.{idleTick, entered}
-use Rattle.machine.specs.Sending.{clashOf, releasesAt, txStep, armed, yielded, driven, stepped}
+use Rattle.machine.specs.Idle.{idleTick, entered, silent, fell}
+use Rattle.machine.specs.Sending.{storeOf, armedStep, Step, Arm, Yield, Drive, clashOf, releasesAt, txStep, armed, yielded, driven, stepped}
 use Rattle.machine.specs.Starting.{loaded}
-use Rattle.machine.specs.Acting as machine
 use Rattle.fsm.specs.declared.DaliBitbangPhy.{DaliBitbangPhy}
 use Rattle.fsm.specs.declared.Started.{Started}
 use Rattle.fsm.specs.declared.StartAnswer.{StartAnswer}
 use Rattle.fsm.specs.declared.StartAnswer.the-variants as start
 use Rattle.fsm.specs.Station.{withCore}
-use Rattle.fsm.specs.Ticking.{isRx, actOf, tickOf}
-use Rattle.fsm.specs.Starting.{isIdle, hears, lengthFits, startedWith, loadedWith, started, startTx, startAnswer}
+use Rattle.fsm.specs.Ticking.{actOf, tickOf}
+use Rattle.machine.specs.States.{isIdle, hears}
+use Rattle.fsm.specs.Starting.{lengthFits, startedWith, loadedWith, started, startTx, startAnswer}
 use Rattle.fsm.specs.Polling.{polled}
 use Rattle.reached.specs.Calls.{Call, afterAll, Reached}
 use Rattle.reached.specs.Ticks.{drives, IsSending, levelsIn, ticksIn}
@@ -67,13 +66,9 @@ taken s hb answer allowed =
 
 pub some-length : (n : ℕ) → lengthFits n ≡ true → 0 < n
 unfolding lengthFits
-some-length n =
-    cases (λ (t : Bool). t ≡ true → 0 < n) (eqb n 0) (λ _ e. absurd (false≢true e)) (λ some _. let s : n ≡ 0 → ⊥ = eqb-false n 0 some in omega (arith, s))
+some-length n e = let some : n ≡ 0 → ⊥ = eqb-false n 0 (is-not _ (parts (not (eqb n 0)) (leb n 54) e .0)) in omega (arith, some)
 
 -- ---- armed, after n ticks
-abbrev pub storeOf : HalfBitBuffer → TxHb
-storeOf hb = record { «tx_hb_data» = hb .«data»; «tx_hb_len» = hb .length }
-
 record Waits (hb : HalfBitBuffer) (answer : Bool) (n : ℕ) (t : DaliBitbangPhy) : Type 0 where
   sending : IsSending t
   left : t .core .tx .«tx_armed» + n ≡ 3
@@ -108,15 +103,15 @@ module _ (hb : HalfBitBuffer) (answer : Bool) where
       }
 
   module _ (n : ℕ) (t : DaliBitbangPhy) (h : Waits hb answer n t) (b : Bool) where
-    by : (x : TxStep) → txStep (t .core .tx) (t .core .«collision_policy») (t .«tx_hb») b ≡ x → tickOf t b ≡ withCore t (stepped x (heardOf (t .core) b))
+    by : (x : Step) → txStep (t .core .tx) (t .core .«collision_policy») (t .«tx_hb») b ≡ x → tickOf t b ≡ withCore t (stepped x (heardOf (t .core) b))
     by = tick-by t b (h .sending)
 
     module _ (few : n < 3) where
-      rule : txStep (t .core .tx) (t .core .«collision_policy») (t .«tx_hb») b ≡ pick b Arm (pick (t .core .tx .«tx_answer») Arm Yield)
+      rule : txStep (t .core .tx) (t .core .«collision_policy») (t .«tx_hb») b ≡ armedStep (t .core .tx) b
       unfolding txStep
       rule =
           let some : t .core .tx .«tx_armed» ≡ 0 → ⊥ = λ e. omega (arith, h .left, e) in
-          simp (on-false (ne-eqb _ _ some))
+          simp (on-true (ap not (ne-eqb _ _ some)))
 
       waits-on : txStep (t .core .tx) (t .core .«collision_policy») (t .«tx_hb») b ≡ Arm → Waits hb answer (suc n) (tickOf t b)
       unfolding stepped armed heardOf
@@ -134,13 +129,13 @@ module _ (hb : HalfBitBuffer) (answer : Bool) where
 
     module _ (last : n ≡ 3) (some : 0 < hb .length) where
       drive : txStep (t .core .tx) (t .core .«collision_policy») (t .«tx_hb») b
-          ≡ Drive (releasesAt (getD (t .«tx_hb» .«tx_hb_data») (t .core .tx .«tx_hb_cnt» / 8) 0) (t .core .tx .«tx_hb_cnt»))
-      unfolding txStep
+          ≡ Drive (releasesAt (t .«tx_hb») (t .core .tx .«tx_hb_cnt»))
+      unfolding txStep storeOf
       drive =
           let unarmed : t .core .tx .«tx_armed» ≡ 0 = omega (arith, h .left) in
           let more : t .core .tx .«tx_hb_cnt» < t .«tx_hb» .«tx_hb_len» = rw (h .store) (omega (arith, h .none)) in
-          let early : t .core .tx .«tx_hb_cnt» / 8 < 7 = omega (arith, h .none) in
-          simp (on-true (eq-eqb _ _ unarmed), on-false (lt-leb _ _ more), on-false calm, on-true (eq-eqb _ _ (h .fresh)), on-false (lt-leb _ _ early))
+          let early : t .core .tx .«tx_hb_cnt» < 56 = omega (arith, h .none) in
+          simp (on-false (ap not (eq-eqb _ _ unarmed)), on-false (lt-leb _ _ more), on-false calm, on-false (ap not (eq-eqb _ _ (h .fresh))), on-false (lt-leb _ _ early))
 
       begins : Begins t b
       unfolding stepped driven heardOf
@@ -156,7 +151,7 @@ module _ (hb : HalfBitBuffer) (answer : Bool) where
 
 -- a low tick yields
 yield-left : (t : DaliBitbangPhy) → Yields (withCore t (stepped Yield (heardOf (t .core) false)))
-unfolding stepped yielded idled idleTick entered heardOf polled tickOf actOf isRx machine.actOf pick
+unfolding stepped yielded idled idleTick silent fell entered heardOf polled tickOf actOf pick
 yield-left t = record { first-low = record { idle = refl; second = refl }; told = refl }
 
 yields : (hb : HalfBitBuffer) (n : ℕ) (t : DaliBitbangPhy) → Waits hb false n t → n < 3 → Yields (tickOf t false)
@@ -167,8 +162,12 @@ yields hb n t h few = rw (by hb false n t h false Yield (rule hb false n t h fal
 answers : (hb : HalfBitBuffer) (n : ℕ) (t : DaliBitbangPhy) → Waits hb true n t → (b : Bool) → n < 3 → Waits hb true (suc n) (tickOf t b)
 answers hb n t h b few = waits-on hb true n t h b few (rule hb true n t h b few ∙ either)
   where
-    either : pick b Arm (pick (t .core .tx .«tx_answer») Arm Yield) ≡ Arm
-    either = cases (λ (x : TxStep). x ≡ Arm) b (λ _. refl) (λ _. on-true (h .kind) Arm Yield)
+    no-yield : (b : Bool) → (not b && not (t .core .tx .«tx_answer»)) ≡ false
+    no-yield true = refl
+    no-yield false = ap not (h .kind)
+
+    either : armedStep (t .core .tx) b ≡ Arm
+    either = on-false (no-yield b) Yield Arm
 
 -- ---- both starts
 module _ (s : DaliBitbangPhy) (r : Reached s) (hb : HalfBitBuffer) where

@@ -1,5 +1,5 @@
 -- What calls other than ticks leave as it is. Assumes nothing.
-use mathlib.Core.Bool.{Bool, true, false, false≢true}
+use mathlib.Core.Bool.{Bool, true, false, not, false≢true}
 use mathlib.Core.Path.{_≡_, refl, sym, _∙_}
 use lib.Dec.{eqb}
 use Rattle.laws.proofs.Picked.{on-false, cases}
@@ -12,8 +12,9 @@ use Rattle.fsm.specs.declared.DaliBitbangPhy.{DaliBitbangPhy}
 use Rattle.fsm.specs.declared.Started.{Started}
 use Rattle.fsm.specs.declared.StartAnswer.the-variants as start
 use Rattle.fsm.specs.declared.Polled.{Polled}
-use Rattle.fsm.specs.Starting.{isIdle, hears, startedWith, started, startTx, startAnswer}
-use Rattle.fsm.specs.Polling.{isTx, polled}
+use Rattle.fsm.specs.Starting.{startedWith, started, startTx, startAnswer}
+use Rattle.machine.specs.States.{isIdle, hears, isTx}
+use Rattle.fsm.specs.Polling.{polled}
 use Rattle.fsm.specs.Calls.{withPolicy, tookIdle, acknowledged, tookRx}
 use Rattle.reached.specs.Calls.{Call, tick, start-tx, start-answer, poll, take-idle, take-rx, acknowledge, policy, after, isBetween}
 
@@ -48,9 +49,9 @@ polled-same s =
     let P : Polled → Type 0 = λ (x : Polled). Same s (x .station) in
     cases P (s .core .told .«tx_yielded»)
     (λ _. record { runs = refl; bus = refl; rx = refl; tx = refl; bytes = refl; halfbits = refl; last = refl })
-    (λ _. cases P (eqb (s .core .told .«tx_collision») 0)
-    (λ _. cases P (isTx (s .core .bus .«bus_state»)) (λ _. itself s) (λ _. itself s))
-    (λ _. record { runs = refl; bus = refl; rx = refl; tx = refl; bytes = refl; halfbits = refl; last = refl }))
+    (λ _. cases P (not (eqb (s .core .told .«tx_collision») 0))
+    (λ _. record { runs = refl; bus = refl; rx = refl; tx = refl; bytes = refl; halfbits = refl; last = refl })
+    (λ _. cases P (isTx (s .core .bus .«bus_state»)) (λ _. itself s) (λ _. itself s)))
 
 acknowledged-same : (mark : RxState) (s : DaliBitbangPhy) → Same s (acknowledged mark s)
 unfolding acknowledged

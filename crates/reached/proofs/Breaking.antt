@@ -2,7 +2,7 @@
 use Prim.Native.Nat.{ℕ, suc, _+_, _%_, _≤_, _<_}
 use native.Mathlib.Omega.{arith}
 use native.Mathlib.Nat.{zero-add}
-use mathlib.Core.Bool.{Bool, true, false, false≢true}
+use mathlib.Core.Bool.{Bool, true, false, false≢true, not}
 use mathlib.Core.List.{List}
 use mathlib.Core.Path.{_≡_, refl, sym, _∙_, ap, subst}
 use lib.Dec.{eqb, ltb}
@@ -12,24 +12,22 @@ use Rattle.laws.proofs.Picked.{on-true, on-false}
 use Rattle.halfbits.specs.declared.HalfBitBuffer.{HalfBitBuffer}
 use Rattle.machine.specs.declared.BusState.{BusState}
 use Rattle.machine.specs.declared.BusState.the-variants as bus
-use Rattle.machine.specs.declared.TxStep.{TxStep}
-use Rattle.machine.specs.declared.TxStep.the-variants.{Arm, Yield, End, Clash, Hold, Drive}
 use Rattle.machine.specs.declared.Core.{Core}
-use Rattle.machine.specs.Groups.{driving, spacing, telling}
+use Rattle.machine.specs.Fields.{withDrivenHigh, withTxCollision, withTxSpCnt}
 use Rattle.machine.specs.Runs.{heardOf}
 use Rattle.machine.specs.BecomingIdle.{idled}
-use Rattle.machine.specs.Idle.{idleTick, entered}
-use Rattle.machine.specs.Sending.{txStep, armed, yielded, clashed, held, driven, stepped, txTick}
+use Rattle.machine.specs.Idle.{idleTick, entered, silent, fell}
+use Rattle.machine.specs.Sending.{Step, Arm, Yield, End, Clash, Hold, Drive, txStep, armed, yielded, clashed, held, driven, stepped, txTick}
 use Rattle.machine.specs.Collision.{broke, collisionTick}
-use Rattle.machine.specs.Acting as machine
 use Rattle.fsm.specs.declared.DaliBitbangPhy.{DaliBitbangPhy}
 use Rattle.fsm.specs.declared.Started.{Started}
 use Rattle.fsm.specs.declared.TxPollResult.the-variants.{Ok}
 use Rattle.fsm.specs.Station.{withCore}
-use Rattle.fsm.specs.Ticking.{isRx, actOf, tickOf}
-use Rattle.fsm.specs.Starting.{isIdle, hears, startTx, startAnswer}
+use Rattle.fsm.specs.Ticking.{actOf, tickOf}
+use Rattle.machine.specs.States.{isIdle, hears, isTx}
+use Rattle.fsm.specs.Starting.{startTx, startAnswer}
 use Rattle.fsm.specs.Refusals.{numberOf}
-use Rattle.fsm.specs.Polling.{isTx, polled}
+use Rattle.fsm.specs.Polling.{polled}
 use Rattle.fsm.specs.Calls.{tookIdle}
 use Rattle.reached.specs.Calls.{Call, after, afterAll, Reached, called, tick}
 use Rattle.reached.specs.Ticks.{drives, IsSending, IsBreaking, levelsIn, ticksIn}
@@ -49,8 +47,8 @@ pub record At (n : ℕ) (t : DaliBitbangPhy) : Type 0 where
   pub driving : 1 ≤ n → drives t ≡ ltb 12 n
 
 -- the tick that sees the clash: no other step leaves Tx for Collision
-clash-alone : (x : TxStep) (c : Core) → c .bus .«bus_state» ≡ bus.Tx → stepped x c .bus .«bus_state» ≡ bus.CollisionTx → stepped x c .tx .«tx_sp_cnt» ≡ 0
-unfolding stepped armed yielded clashed held driven idled idleTick pick
+clash-alone : (x : Step) (c : Core) → c .bus .«bus_state» ≡ bus.Tx → stepped x c .bus .«bus_state» ≡ bus.CollisionTx → stepped x c .tx .«tx_sp_cnt» ≡ 0
+unfolding stepped armed yielded clashed held driven idled idleTick silent fell pick
 clash-alone Arm c e f = absurd (sending-not-breaking (sym e ∙ f))
 clash-alone Yield c e f = absurd (idle-not-breaking f)
 clash-alone End c e f = absurd (idle-not-breaking f)
@@ -70,7 +68,7 @@ begins s r level sending clash = record {
     c : Core
     c = heardOf (s .core) level
 
-    x : TxStep
+    x : Step
     x = txStep (c .tx) (c .«collision_policy») (s .«tx_hb») level
 
     e : tickOf s level ≡ withCore s (stepped x c)
@@ -80,20 +78,20 @@ begins s r level sending clash = record {
     none h = omega (arith, h)
 
 -- ---- the last tick
-sampled-there : (t : DaliBitbangPhy) (level : Bool) → Broke level (withCore t (broke (spacing (heardOf (t .core) level) 14) level))
-unfolding broke idled idleTick entered tookIdle tickOf actOf isRx machine.actOf heardOf pick
+sampled-there : (t : DaliBitbangPhy) (level : Bool) → Broke level (withCore t (broke (withTxSpCnt (heardOf (t .core) level) 14) level))
+unfolding broke idled idleTick silent fell entered tookIdle tickOf actOf heardOf pick
 sampled-there t true = record { mark = refl; found-low = λ e. absurd (false≢true (sym e)); found-high = λ _. record { idle = refl; alone = refl } }
 sampled-there t false = record { mark = refl; found-low = λ _. record { idle = refl; second = refl }; found-high = λ e. absurd (false≢true e) }
 
 -- ---- a tick of it
 module _ (n : ℕ) (t : DaliBitbangPhy) (breaking : IsBreaking t) (passed : t .core .tx .«tx_sp_cnt» ≡ n) (level : Bool) where
-  pub tick-on : n < 13 → tickOf t level ≡ withCore t (driving (spacing (heardOf (t .core) level) (suc n)) (ltb 12 (suc n)))
+  pub tick-on : n < 13 → tickOf t level ≡ withCore t (withDrivenHigh (withTxSpCnt (heardOf (t .core) level) (suc n)) (ltb 12 (suc n)))
   unfolding collisionTick heardOf
   tick-on few =
       let now : (t .core .tx .«tx_sp_cnt» + 1) % 256 ≡ suc n = omega arith in
       tick-break t level breaking ∙ rw now (simp (on-false (lt-leb 14 (suc n) (omega arith))))
 
-  tick-last : n ≡ 13 → tickOf t level ≡ withCore t (broke (spacing (heardOf (t .core) level) 14) level)
+  tick-last : n ≡ 13 → tickOf t level ≡ withCore t (broke (withTxSpCnt (heardOf (t .core) level) 14) level)
   unfolding collisionTick heardOf
   tick-last last =
       let now : (t .core .tx .«tx_sp_cnt» + 1) % 256 ≡ 14 = omega arith in
@@ -113,16 +111,16 @@ module _ (n : ℕ) (t : DaliBitbangPhy) (h : At n t) (level : Bool) where
 -- polled twice, it answers Ok
 clear-ok : (t : DaliBitbangPhy) → t .core .told .«tx_yielded» ≡ false → t .core .told .«tx_collision» ≡ 0 → IsBreaking t → polled t .answer ≡ Ok
 unfolding polled isTx
-clear-ok t calm none e = simp (on-false calm, on-true (eq-eqb _ _ none), on-false (ap isTx e))
+clear-ok t calm none e = simp (on-false calm, on-false (ap not (eq-eqb _ _ none)), on-false (ap isTx e))
 
 untold : (t : DaliBitbangPhy) → t .core .told .«tx_yielded» ≡ false → IsBreaking t → eqb (t .core .told .«tx_collision») 0 ≡ true → polled t .station ≡ t
 unfolding polled isTx
-untold t calm e none = simp (on-false calm, on-true none, on-false (ap isTx e))
+untold t calm e none = simp (on-false calm, on-false (ap not none), on-false (ap isTx e))
 
 told : (t : DaliBitbangPhy) → t .core .told .«tx_yielded» ≡ false → eqb (t .core .told .«tx_collision») 0 ≡ false
-    → polled t .station ≡ withCore t (telling (t .core) 0 (t .core .told .«tx_idle_after_break») (t .core .told .«tx_yielded»))
+    → polled t .station ≡ withCore t (withTxCollision (t .core) 0)
 unfolding polled
-told t calm some = simp (on-false calm, on-false some)
+told t calm some = simp (on-false calm, on-true (ap not some))
 
 polled-ok : (t : DaliBitbangPhy) → t .core .told .«tx_yielded» ≡ false → IsBreaking t → polled (polled t .station) .answer ≡ Ok
 polled-ok t calm e = go (eqb (t .core .told .«tx_collision») 0) refl

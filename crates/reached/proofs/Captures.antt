@@ -13,11 +13,11 @@ use Rattle.laws.specs.Tabulate.{tabulate}
 use Rattle.laws.proofs.Tabulated.{length-tabulate}
 use Rattle.halfbits.specs.declared.HalfBitBuffer.{HalfBitBuffer}
 use Rattle.machine.specs.Runs.{heardOf}
-use Rattle.machine.specs.Idle.{entered, idleTick}
-use Rattle.machine.specs.Acting as machine
+use Rattle.machine.specs.Idle.{entered, idleTick, silent, fell}
 use Rattle.fsm.specs.declared.DaliBitbangPhy.{DaliBitbangPhy}
-use Rattle.fsm.specs.Ticking.{isRx, actOf, tickOf}
-use Rattle.fsm.specs.Starting.{isIdle, startTx}
+use Rattle.fsm.specs.Ticking.{actOf, tickOf}
+use Rattle.machine.specs.States.{isIdle}
+use Rattle.fsm.specs.Starting.{startTx}
 use Rattle.reached.specs.Calls.{Call, tick, start-tx, start-answer, poll, take-idle, take-rx, acknowledge, policy, after, afterAll, isBetween, isAnswer, NoAnswer, Reached}
 use Rattle.reached.specs.Ticks.{IsIdle, IsCapturing, highsRunning, levelIn, levelsIn}
 use Rattle.reached.specs.OverTicks.{idleCount, NoLow, OneLow, InIdle, IdleTicks, Hears, Captures, Captured, CaptureEnds}
@@ -32,24 +32,24 @@ module _ (s : DaliBitbangPhy) (idle : IsIdle s) where
   none-yet e = record { idle = idle; alone = first-low s idle e .0 }
 
   one-yet : s .core .bus .«rx_debounce» ≡ 1 → OneLow s
-  unfolding tickOf actOf isRx machine.actOf idleTick entered heardOf pick
+  unfolding tickOf actOf idleTick silent fell entered heardOf pick
   one-yet e = record { idle = idle; second = rw (idle, e) }
 
   after-high : NoLow (tickOf s true)
-  unfolding tickOf actOf isRx machine.actOf idleTick heardOf pick
+  unfolding tickOf actOf idleTick silent fell heardOf pick
   after-high = rw idle (record { idle = refl; alone = refl })
 
   counted : idleCount (tickOf s true) ≡ min (idleCount s + 1) 65535
-  unfolding tickOf actOf isRx machine.actOf idleTick heardOf pick
+  unfolding tickOf actOf idleTick silent fell heardOf pick
   counted = rw idle
 
   -- neither the first low tick nor the second changes the idle count
   kept-first : s .core .bus .«rx_debounce» ≡ 0 → idleCount (tickOf s false) ≡ idleCount s
-  unfolding tickOf actOf isRx machine.actOf idleTick heardOf pick
+  unfolding tickOf actOf idleTick silent fell heardOf pick
   kept-first e = rw (idle, e)
 
   kept-second : s .core .bus .«rx_debounce» ≡ 1 → idleCount (tickOf s false) ≡ idleCount s
-  unfolding tickOf actOf isRx machine.actOf idleTick entered heardOf pick
+  unfolding tickOf actOf idleTick silent fell entered heardOf pick
   kept-second e = rw (idle, e)
 
 module _ (s : DaliBitbangPhy) (r : Reached s) (idle : IsIdle s) where
@@ -129,7 +129,7 @@ module _ (s : DaliBitbangPhy) (level : ℕ → Bool) (n : ℕ) (calls : List Cal
   hearing =
       let idle : IsIdle s = h .starts .idle in
       let two : HearingOn s level 2 (tickOf s false)
-      = second-low-on level s idle (debouncing s (h .reached) idle (h .starts)) (invariants s (h .reached) .data-whole) (h .two-lows .0) (h .two-lows .1) in
+      = second-low-on level s idle (debouncing s (h .reached) idle (h .starts)) (h .two-lows .0) (h .two-lows .1) in
       hears-on s level calls n 2 (λ i. level (2 + i)) (tickOf s false) (h .ticks) (λ i. refl) (h .unanswered) (h .lasts) two
 
   ends : highsRunning (3 + n) level ≡ 16 → Captured s level (3 + n) (tickOf (afterAll calls (tickOf s false)) (level (2 + n)))

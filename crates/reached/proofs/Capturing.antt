@@ -15,21 +15,22 @@ use Rattle.laws.specs.Packed.{packed}
 use Rattle.laws.specs.Pick.{pick}
 use Rattle.laws.proofs.Picked.{on-true, on-false, cases}
 use Rattle.laws.proofs.Digits.{packed-part, bit-lt}
+use Rattle.capture.specs.declared.Samples.{Samples}
+use Rattle.capture.specs.Samples.{bytesOf, withByte}
+use Rattle.capture.proofs.Kept.{whole, writes-one}
 use Rattle.machine.specs.declared.RxState.the-variants.{Completed}
 use Rattle.machine.specs.declared.Rx.{Rx}
-use Rattle.machine.specs.Groups.{withRx}
+use Rattle.machine.specs.Fields.{withRx}
 use Rattle.machine.specs.Runs.{heardOf}
 use Rattle.machine.specs.BecomingIdle.{idled}
-use Rattle.machine.specs.Idle.{entered, idleTick}
-use Rattle.machine.specs.Acting as machine
-use Rattle.machine.specs.Sampling.{rxOf, shifted, highRun, sampled, goesOn, finished, rxTick}
+use Rattle.machine.specs.Idle.{entered, idleTick, silent, fell}
+use Rattle.fsm.specs.Rx.{shifted, highRun, sampled, filled, goesOn, finished, notified, wentOn, rxTick, noneSampled}
 use Rattle.fsm.specs.declared.DaliBitbangPhy.{DaliBitbangPhy}
 use Rattle.fsm.specs.Station.{stationOf}
-use Rattle.fsm.specs.Receiving.{filled, finishedRx, storedRx}
-use Rattle.fsm.specs.Ticking.{isRx, actOf, tickOf}
+use Rattle.fsm.specs.Ticking.{actOf, tickOf}
 use Rattle.reached.specs.Ticks.{IsIdle, IsCapturing, highsRunning}
 use Rattle.reached.specs.OverTicks as over
-use Rattle.reached.specs.OverTicks.{idleCount, byteOf, Store, NoLow}
+use Rattle.reached.specs.OverTicks.{idleCount, captured, handed, byteOf, Store, NoLow}
 use Rattle.reached.proofs.Between.{Same}
 use Rattle.reached.proofs.ByState.{tick-rx}
 
@@ -86,7 +87,10 @@ module _ (level : ℕ → Bool) where
   last-eight : (m q : ℕ) → 8 * q + 8 ≡ m → packed 2 m digit % 256 ≡ byteOf level q
   last-eight m q e = ap (λ x. x % 256) (sym (div-one (packed 2 m digit))) ∙ packed-part m (8 * q) 8 0 digit (omega arith) (λ i. bit-lt (level i))
 
-  module _ (before : List ℕ) (bytes : List ℕ) where
+  module _ (before : List ℕ) (samples : Samples) where
+    abbrev bytes : List ℕ
+    bytes = bytesOf samples
+
     -- a byte is written at its place, or over slot 63
     written : (q : ℕ) → Store before level q bytes → Store before level (suc q) (set bytes (min q 63) (byteOf level q))
     written q h = record { whole = length-set bytes (min q 63) _ ∙ h .whole; first = λ i p small. first-kept i p small (decLt i q); last = last-kept; rest = rest-kept }
@@ -108,29 +112,32 @@ module _ (level : ℕ → Bool) where
         rest-kept i past = getD-set-other bytes (min q 63) i _ 0 (λ e. let here : ⊥ = omega arith in here) ∙ h .rest i (omega arith)
 
     module _ (m : ℕ) (r : Rx) (h : Sampled m r) (stored : Store before level (m / 8) bytes) where
-      eighth-stored : r .«rx_bit_cnt» ≡ 7 → Store before level (suc m / 8) (set bytes (min (r .«rx_pos») 63) (shifted r (level m)))
+      eighth-stored : r .«rx_bit_cnt» ≡ 7 → Store before level (suc m / 8) (bytesOf (withByte samples (min (r .«rx_pos») 63) (shifted r (level m))))
       eighth-stored c =
           let at : min (r .«rx_pos») 63 ≡ min (m / 8) 63 = pinned (m / 8) _ (h .pos) in
           let last : 8 * (m / 8) + 8 ≡ suc m = omega (arith, h .count) in
           let next : suc m / 8 ≡ suc (m / 8) = omega (arith, h .count) in
-          rw (next, at, next-byte m r h, last-eight (suc m) (m / 8) last) (written (m / 8) stored)
+          let small : shifted r (level m) < 256 = omega (arith, bit-lt (level m)) in
+          rw (writes-one samples (min (r .«rx_pos») 63) (shifted r (level m)) small, next, at, next-byte m r h, last-eight (suc m) (m / 8) last)
+          (written (m / 8) stored)
 
-      pub filled-next : Store before level (suc m / 8) (filled bytes r (level m))
+      pub filled-next : Store before level (suc m / 8) (bytesOf (filled samples r (level m)))
       unfolding filled
       filled-next =
-          cases (Store before level (suc m / 8)) (eqb (r .«rx_bit_cnt») 7) (λ e. eighth-stored (eqb-true _ _ e))
+          cases (λ (x : Samples). Store before level (suc m / 8) (bytesOf x)) (eqb (r .«rx_bit_cnt») 7) (λ e. eighth-stored (eqb-true _ _ e))
           (λ e. let c : r .«rx_bit_cnt» ≡ 7 → ⊥ = eqb-false _ _ e in let same : suc m / 8 ≡ m / 8 = omega (arith, h .count, c) in rw same stored)
 
 -- ---- a tick in Rx
 module _ (s : DaliBitbangPhy) (high : Bool) (in-rx : IsCapturing s) where
   tick-on : goesOn (sampled (s .core .rx) high) ≡ true
       → tickOf s high ≡ stationOf (withRx (heardOf (s .core) high) (sampled (s .core .rx) high)) (filled (s .«rx_data») (s .core .rx) high) (s .«tx_hb») (s .«last_rx»)
-  unfolding storedRx rxTick heardOf
+  unfolding rxTick wentOn heardOf
   tick-on e = tick-rx s high in-rx ∙ simp (on-true e)
 
   tick-end : goesOn (sampled (s .core .rx) high) ≡ false
-      → tickOf s high ≡ finishedRx s (finished (heardOf (s .core) high) (sampled (s .core .rx) high)) (sampled (s .core .rx) high) (filled (s .«rx_data») (s .core .rx) high)
-  unfolding storedRx rxTick heardOf
+      → tickOf s high
+      ≡ notified s (finished (heardOf (s .core) high) (sampled (s .core .rx) high)) (withByte (filled (s .«rx_data») (s .core .rx) high) (sampled (s .core .rx) high .«rx_pos») 255)
+  unfolding rxTick wentOn heardOf
   tick-end e = tick-rx s high in-rx ∙ simp (on-false e)
 
 -- the silence before a capture stays with it
@@ -139,27 +146,30 @@ unfolding sampled
 pre-kept r high = cases (λ (x : Rx). x .«rx_pre_idle» ≡ r .«rx_pre_idle») (eqb (r .«rx_bit_cnt») 7) (λ _. refl) (λ _. refl)
 
 -- a station whose capture is over is Idle, and remembers no low
-at-rest : (s : DaliBitbangPhy) (high : Bool) (r : Rx) (bytes : List ℕ) → NoLow (finishedRx s (finished (heardOf (s .core) high) r) r bytes)
-unfolding finishedRx finished idled heardOf tickOf actOf isRx machine.actOf idleTick pick
-at-rest s high r bytes = record { idle = refl; alone = refl }
+at-rest : (s : DaliBitbangPhy) (high : Bool) (r : Rx) (samples : Samples) → NoLow (notified s (finished (heardOf (s .core) high) r) samples)
+unfolding notified finished idled heardOf tickOf actOf idleTick silent fell pick
+at-rest s high r samples = record { idle = refl; alone = refl }
 
 -- the end: 0xFF at the position
-ended : (s : DaliBitbangPhy) (high : Bool) (r : Rx) (bytes : List ℕ) (base : DaliBitbangPhy) (level : ℕ → Bool) (m : ℕ)
-    → r .«rx_pos» ≡ min (m / 8) 63 → Store (base .«rx_data») level (m / 8) bytes → r .«rx_pre_idle» ≡ min (idleCount base) 255
-    → over.Captured base level m (finishedRx s (finished (heardOf (s .core) high) r) r bytes)
-unfolding finishedRx finished idled
-ended s high r bytes base level m at b pre = record {
-  idle = at-rest s high r bytes;
-  whole = length-set bytes _ 255 ∙ b .whole;
+ended : (s : DaliBitbangPhy) (high : Bool) (r : Rx) (samples : Samples) (base : DaliBitbangPhy) (level : ℕ → Bool) (m : ℕ)
+    → r .«rx_pos» ≡ min (m / 8) 63 → Store (captured base) level (m / 8) (bytesOf samples) → r .«rx_pre_idle» ≡ min (idleCount base) 255
+    → over.Captured base level m (notified s (finished (heardOf (s .core) high) r) (withByte samples (r .«rx_pos») 255))
+unfolding notified finished idled
+ended s high r samples base level m at b pre = record {
+  idle = at-rest s high r (withByte samples (r .«rx_pos») 255);
+  whole = whole (withByte samples (r .«rx_pos») 255);
   ready = refl;
   count = rw at (plain (m / 8));
-  first = λ i p small. rw at (getD-set-other bytes (min (m / 8) 63) i 255 0 (λ e. let here : ⊥ = omega arith in here) ∙ b .first i p small);
-  end = rw at (getD-set-same bytes (min (m / 8) 63) 255 0 (let within : min (m / 8) 63 < length bytes = omega (arith, b .whole) in within));
-  rest = λ i past. rw at (getD-set-other bytes (min (m / 8) 63) i 255 0 (λ e. let here : ⊥ = omega arith in here) ∙ b .rest i (omega arith));
+  first = λ i p small. rw put (getD-set-other (bytesOf samples) (min (m / 8) 63) i 255 0 (λ e. let here : ⊥ = omega arith in here) ∙ b .first i p small);
+  end = rw put (getD-set-same (bytesOf samples) (min (m / 8) 63) 255 0 (let within : min (m / 8) 63 < length (bytesOf samples) = omega (arith, b .whole) in within));
+  rest = λ i past. rw put (getD-set-other (bytesOf samples) (min (m / 8) 63) i 255 0 (λ e. let here : ⊥ = omega arith in here) ∙ b .rest i (omega arith));
   silence = pre;
   stays = refl;
 }
   where
+    put : bytesOf (withByte samples (r .«rx_pos») 255) ≡ set (bytesOf samples) (min (m / 8) 63) 255
+    put = writes-one samples (r .«rx_pos») 255 (omega arith) ∙ ap (λ i. set (bytesOf samples) i 255) at
+
     plain : (q : ℕ) → min (min q 63 + 1) 65535 ≡ min q 63 + 1
     plain q = omega arith
 
@@ -168,7 +178,7 @@ module _ (base : DaliBitbangPhy) (level : ℕ → Bool) where
   pub record HearingOn (m : ℕ) (s : DaliBitbangPhy) : Type 0 where
     pub in-rx : IsCapturing s
     pub counters : Sampled level m (s .core .rx)
-    pub store : Store (base .«rx_data») level (m / 8) (s .«rx_data»)
+    pub store : Store (captured base) level (m / 8) (captured s)
     pub silence : s .core .rx .«rx_pre_idle» ≡ min (idleCount base) 255
 
   pub hearing-kept : (m : ℕ) (s t : DaliBitbangPhy) → Same s t → HearingOn m s → HearingOn m t
@@ -182,8 +192,8 @@ module _ (base : DaliBitbangPhy) (level : ℕ → Bool) where
     then : Sampled level (suc m) (sampled (s .core .rx) (level m))
     then = sampled-next level m (s .core .rx) (h .counters) few
 
-    then-bytes : Store (base .«rx_data») level (suc m / 8) (filled (s .«rx_data») (s .core .rx) (level m))
-    then-bytes = filled-next level (base .«rx_data») (s .«rx_data») m (s .core .rx) (h .counters) (h .store)
+    then-bytes : Store (captured base) level (suc m / 8) (bytesOf (filled (s .«rx_data») (s .core .rx) (level m)))
+    then-bytes = filled-next level (captured base) (s .«rx_data») m (s .core .rx) (h .counters) (h .store)
 
     pub on-next : highsRunning (suc m) level ≤ 15 → HearingOn (suc m) (tickOf s (level m))
     unfolding heardOf
@@ -201,24 +211,24 @@ module _ (base : DaliBitbangPhy) (level : ℕ → Bool) where
 
 -- ---- ticks in Idle
 -- The second low tick running starts Rx, with two low levels sampled.
-two-lows : (level : ℕ → Bool) (pre : ℕ) → level 0 ≡ false → level 1 ≡ false → Sampled level 2 (sampled (sampled (rxOf 0 0 0 0 pre) false) false)
+two-lows : (level : ℕ → Bool) (pre : ℕ) → level 0 ≡ false → level 1 ≡ false → Sampled level 2 (sampled (sampled (noneSampled pre) false) false)
 unfolding sampled highRun pick highsRunning packed
 two-lows level pre e f = record { pos = refl; count = refl; byte = rw (e, f); idle = rw f }
 
-pub second-low-on : (level : ℕ → Bool) (s : DaliBitbangPhy) → IsIdle s → s .core .bus .«rx_debounce» ≡ 1 → length (s .«rx_data») ≡ 64 → level 0 ≡ false → level 1 ≡ false
+pub second-low-on : (level : ℕ → Bool) (s : DaliBitbangPhy) → IsIdle s → s .core .bus .«rx_debounce» ≡ 1 → level 0 ≡ false → level 1 ≡ false
     → HearingOn s level 2 (tickOf s false)
-unfolding tickOf actOf isRx machine.actOf idleTick entered sampled heardOf pick
-second-low-on level s idle fell whole e f =
-    rw (idle, fell) (record { in-rx = refl; counters = two-lows level _ e f; store = untouched; silence = refl })
+unfolding tickOf actOf idleTick silent fell entered sampled highRun heardOf pick
+second-low-on level s idle once e f =
+    rw (idle, once) (record { in-rx = refl; counters = two-lows level _ e f; store = untouched; silence = refl })
   where
-    untouched : Store (s .«rx_data») level (2 / 8) (s .«rx_data»)
-    untouched = record { whole = whole; first = λ i p _. absurd (not-suc-le-zero p); last = λ i e _. absurd (let none : ⊥ = omega arith in none); rest = λ i _. refl }
+    untouched : Store (captured s) level (2 / 8) (captured s)
+    untouched = record { whole = whole (s .«rx_data»); first = λ i p _. absurd (not-suc-le-zero p); last = λ i e _. absurd (let none : ⊥ = omega arith in none); rest = λ i _. refl }
 
 -- One low tick alone is only remembered.
 pub first-low : (s : DaliBitbangPhy) → IsIdle s → s .core .bus .«rx_debounce» ≡ 0
     → IsIdle (tickOf s false) × (tickOf s false .core .bus .«rx_debounce» ≡ 1) × (tickOf s false .«rx_data» ≡ s .«rx_data»)
-unfolding tickOf actOf isRx machine.actOf idleTick heardOf pick
-first-low s idle fell = rw (idle, fell) (refl, refl, refl)
+unfolding tickOf actOf idleTick silent fell heardOf pick
+first-low s idle none = rw (idle, none) (refl, refl, refl)
 
 -- ---- captures of up to 504 levels, which overwrite no slot
 module _ (level : ℕ → Bool) where
@@ -237,8 +247,8 @@ module _ (level : ℕ → Bool) where
     pub idle : IsIdle s
     pub ready : s .core .told .«rx_state» ≡ Completed
     pub count : s .«last_rx» .«sample_count» ≡ m / 8 + 1
-    pub bytes : Stored (m / 8) (s .«last_rx» .samples)
-    pub end : getD (s .«last_rx» .samples) (m / 8) 0 ≡ 255
+    pub bytes : Stored (m / 8) (handed s)
+    pub end : getD (handed s) (m / 8) 0 ≡ 255
 
   module _ (m : ℕ) (s : DaliBitbangPhy) (h : Hearing m s) (room : m < 504) (few : highsRunning m level ≤ 15) where
     pub hearing-next : highsRunning (suc m) level ≤ 15 → Hearing (suc m) (tickOf s (level m))
@@ -258,9 +268,9 @@ module _ (level : ℕ → Bool) where
 
   -- A capture stays while the line is high.
   pub captured-stays : (m : ℕ) (s : DaliBitbangPhy) → Captured m s → Captured m (tickOf s true)
-  unfolding tickOf actOf isRx machine.actOf idleTick heardOf pick
+  unfolding tickOf actOf idleTick silent fell heardOf pick
   captured-stays m s h = rw (h .idle) (record { idle = refl; ready = h .ready; count = h .count; bytes = h .bytes; end = h .end })
 
-  pub second-low : (s : DaliBitbangPhy) → IsIdle s → s .core .bus .«rx_debounce» ≡ 1 → length (s .«rx_data») ≡ 64 → level 0 ≡ false → level 1 ≡ false
+  pub second-low : (s : DaliBitbangPhy) → IsIdle s → s .core .bus .«rx_debounce» ≡ 1 → level 0 ≡ false → level 1 ≡ false
       → Hearing 2 (tickOf s false)
-  second-low s idle fell whole e f = record { base = s; on = second-low-on level s idle fell whole e f }
+  second-low s idle once e f = record { base = s; on = second-low-on level s idle once e f }

@@ -2,28 +2,27 @@
 use Prim.Native.Nat.{ℕ, _+_, _/_, _%_, _≤_, _<_, min}
 use native.Mathlib.Omega.{arith}
 use native.Mathlib.Nat.{not-suc-le-zero}
-use mathlib.Core.Bool.{Bool, true, false, not, false≢true}
+use mathlib.Core.Bool.{Bool, true, false, not, false≢true, _&&_, _||_}
 use mathlib.Core.Path.{_≡_, refl, sym, _∙_, ap, subst}
 use lib.Dec.{eqb, ltb, leb}
 use borrow.Author.Tests.{eqb-true, eqb-false, eq-eqb, ne-eqb}
 use Rattle.laws.specs.Bit.{bit}
 use Rattle.laws.specs.Pick.{pick}
+use Rattle.laws.proofs.Joined.{joins, parts, is-not, or-on, or-off}
 use Rattle.laws.proofs.Picked.{on-true, on-false, cases}
 use Rattle.halfbits.specs.declared.HalfBitBuffer.{HalfBitBuffer}
 use Rattle.machine.specs.declared.BusState.{BusState}
 use Rattle.machine.specs.declared.BusState.the-variants as bus
 use Rattle.machine.specs.declared.CollisionPolicy.{CollisionPolicy}
 use Rattle.machine.specs.declared.CollisionPolicy.the-variants.{Auto, Off, On}
-use Rattle.machine.specs.declared.TxStep.{TxStep}
-use Rattle.machine.specs.declared.TxStep.the-variants.{Arm, Yield, End, Clash, Hold, Drive}
 use Rattle.machine.specs.declared.Tx.{Tx}
 use Rattle.machine.specs.declared.TxHb.{TxHb}
 use Rattle.machine.specs.declared.Core.{Core}
 use Rattle.machine.specs.Runs.{heardOf}
 use Rattle.machine.specs.BecomingIdle.{idled}
-use Rattle.machine.specs.Sampling.{sampled, goesOn, finished, rxTick}
-use Rattle.machine.specs.Idle.{idleTick, entered}
-use Rattle.machine.specs.Sending.{watchesOf, clashOf, txStep, armed, yielded, clashed, held, driven, stepped, txTick}
+use Rattle.fsm.specs.Rx.{sampled, goesOn, finished, rxTick, notified, wentOn}
+use Rattle.machine.specs.Idle.{idleTick, entered, silent, fell}
+use Rattle.machine.specs.Sending.{Step, Arm, Yield, End, Clash, Hold, Drive, watchesOf, clashOf, txStep, armed, yielded, clashed, held, driven, stepped, txTick}
 use Rattle.machine.specs.Collision.{broke, collisionTick}
 use Rattle.machine.specs.Starting.{loaded}
 use Rattle.fsm.specs.declared.DaliBitbangPhy.{DaliBitbangPhy}
@@ -31,10 +30,10 @@ use Rattle.fsm.specs.declared.Started.{Started}
 use Rattle.fsm.specs.declared.StartAnswer.the-variants as start
 use Rattle.fsm.specs.declared.TxPollResult.the-variants.{Collision}
 use Rattle.fsm.specs.Station.{newCore, newStation, withCore}
-use Rattle.fsm.specs.Receiving.{storedRx, finishedRx}
 use Rattle.fsm.specs.Ticking.{tickOf}
-use Rattle.fsm.specs.Starting.{isIdle, hears, lengthFits, startedWith, loadedWith, started, startTx, startAnswer}
-use Rattle.fsm.specs.Polling.{isTx, polled}
+use Rattle.fsm.specs.Starting.{lengthFits, startedWith, loadedWith, started, startTx, startAnswer}
+use Rattle.machine.specs.States.{isIdle, hears, isTx}
+use Rattle.fsm.specs.Polling.{polled}
 use Rattle.reached.specs.Calls.{Call, tick, start-tx, start-answer, poll, take-idle, take-rx, acknowledge, policy, after, isBetween, Reached, new, called}
 use Rattle.reached.specs.Ticks.{drives, IsSending, IsBreaking}
 use Rattle.reached.specs.OverTicks.{toSend, Watches, ClashSeen}
@@ -53,27 +52,27 @@ not-tx b e f = false≢true (sym e ∙ ap isTx f)
 
 -- a tick in another state leads to no Tx
 idle-steady : (c : Core) (high : Bool) → c .bus .«bus_state» ≡ bus.Idle → Steady (idleTick c high)
-unfolding idleTick entered isTx
+unfolding idleTick silent fell entered isTx
 idle-steady c high e =
     cases Steady high (λ _ f. absurd (idle-not-sending (sym e ∙ f)))
     (λ _. cases Steady (ltb (min (c .bus .«rx_debounce» + 1) 255) 2) (λ _ f. absurd (idle-not-sending (sym e ∙ f))) (λ _ f. absurd (not-tx bus.Rx refl f)))
 
-rx-steady : (s : DaliBitbangPhy) (c : Core) (high : Bool) → c .bus .«bus_state» ≡ bus.Rx → Steady (storedRx s c high .core)
-unfolding storedRx rxTick finishedRx finished idled isTx
+rx-steady : (s : DaliBitbangPhy) (c : Core) (high : Bool) → c .bus .«bus_state» ≡ bus.Rx → Steady (rxTick s c high .core)
+unfolding rxTick wentOn notified finished idled isTx
 rx-steady s c high e =
     cases (λ (t : DaliBitbangPhy). Steady (t .core)) (goesOn (sampled (c .rx) high))
-    (λ on f. absurd (not-tx bus.Rx refl (sym e ∙ sym (ap (λ (d : Core). d .bus .«bus_state») (on-true on _ _)) ∙ f)))
-    (λ off f. absurd (idle-not-sending (sym (ap (λ (d : Core). d .bus .«bus_state») (on-false off _ _)) ∙ f)))
+    (λ _ f. absurd (not-tx bus.Rx refl (sym e ∙ f)))
+    (λ _ f. absurd (idle-not-sending f))
 
 break-steady : (c : Core) (high : Bool) → c .bus .«bus_state» ≡ bus.CollisionTx → Steady (collisionTick c high)
-unfolding collisionTick broke idled idleTick isTx pick
+unfolding collisionTick broke idled idleTick silent fell isTx pick
 break-steady c high e =
     cases Steady (leb 14 ((c .tx .«tx_sp_cnt» + 1) % 256)) (λ _. cases Steady high (λ _ f. absurd (idle-not-sending f)) (λ _ f. absurd (idle-not-sending f)))
     (λ _ f. absurd (not-tx bus.CollisionTx refl (sym e ∙ f)))
 
 -- and in Tx each step keeps it
-step-steady : (x : TxStep) (c : Core) → c .bus .«bus_state» ≡ bus.Tx → Steady c → Steady (stepped x c)
-unfolding stepped armed yielded clashed held driven idled idleTick pick
+step-steady : (x : Step) (c : Core) → c .bus .«bus_state» ≡ bus.Tx → Steady c → Steady (stepped x c)
+unfolding stepped armed yielded clashed held driven idled idleTick silent fell pick
 step-steady Arm c e h = h
 step-steady Yield c e h = λ f. absurd (idle-not-sending f)
 step-steady End c e h = λ f. absurd (idle-not-sending f)
@@ -131,6 +130,10 @@ watching Off len w = absurd w
 watching On len w = refl
 
 -- ---- the test for a clash, read off
+-- on these ticks of a half-bit two ticks or one are left of it
+abbrev third-or-fourth : ℕ → Bool
+third-or-fourth left = eqb left 1 || eqb left 2
+
 pub record Told (tx : Tx) (p : CollisionPolicy) (len : ℕ) (high : Bool) : Type 0 where
   pub fell : high ≡ false
   pub released : tx .«tx_high» ≡ 0 → ⊥
@@ -140,28 +143,35 @@ pub record Told (tx : Tx) (p : CollisionPolicy) (len : ℕ) (high : Bool) : Type
 
 pub clash-told : (tx : Tx) (p : CollisionPolicy) (len : ℕ) (high : Bool) → clashOf tx p len high ≡ true → Told tx p len high
 unfolding clashOf
-clash-told tx p len high =
-    let P : Bool → Type 0 = λ (b : Bool). b ≡ true → Told tx p len high in
-    cases P high (λ _ e. absurd (false≢true e))
-    (λ fell. cases P (eqb (tx .«tx_high») 0) (λ _ e. absurd (false≢true e))
-    (λ on. cases P (watchesOf p len)
-    (λ w. cases P (eqb (tx .«tx_sp_cnt») 1)
-    (λ one _. let n : tx .«tx_sp_cnt» ≡ 1 = eqb-true _ _ one in found fell (eqb-false _ _ on) (watched p len w) (omega arith) (omega arith))
-    (λ _ two. let n : tx .«tx_sp_cnt» ≡ 2 = eqb-true _ _ two in found fell (eqb-false _ _ on) (watched p len w) (omega arith) (omega arith)))
-    (λ _ e. absurd (false≢true e))))
+clash-told tx p len high e =
+    let all = parts _ (third-or-fourth (tx .«tx_sp_cnt»)) e in
+    let low = parts _ (not high) (all .0) in
+    let on = parts _ (not (eqb (tx .«tx_high») 0)) (low .0) in
+    let left = two-or-one (tx .«tx_sp_cnt») (eqb (tx .«tx_sp_cnt») 1) refl (all .1) in
+    record {
+      fell = is-not high (low .1);
+      released = eqb-false _ _ (is-not _ (on .1));
+      watches = watched p len (on .0);
+      left = left .0;
+      few = left .1;
+    }
   where
-    found : high ≡ false → (tx .«tx_high» ≡ 0 → ⊥) → Watches p len → 1 ≤ tx .«tx_sp_cnt» → tx .«tx_sp_cnt» ≤ 2 → Told tx p len high
-    found fell on w left few = record { fell = fell; released = on; watches = w; left = left; few = few }
+    two-or-one : (n : ℕ) (b : Bool) → eqb n 1 ≡ b → third-or-fourth n ≡ true → (1 ≤ n) × (n ≤ 2)
+    two-or-one n true one e = let is-one : n ≡ 1 = eqb-true n 1 one in (omega arith, omega arith)
+    two-or-one n false other e = let is-two : n ≡ 2 = eqb-true n 2 (sym (or-off other (eqb n 2)) ∙ e) in (omega arith, omega arith)
 
 pub told-clash : (tx : Tx) (p : CollisionPolicy) (len : ℕ) (high : Bool) → Told tx p len high → clashOf tx p len high ≡ true
 unfolding clashOf
 told-clash tx p len high t =
-    simp (on-false (t .fell), on-false (ne-eqb _ _ (t .released)), on-true (watching p len (t .watches)))
-    (cases (λ (b : Bool). b ≡ true) (eqb (tx .«tx_sp_cnt») 1) (λ _. refl)
-    (λ e. let n : tx .«tx_sp_cnt» ≡ 1 → ⊥ = eqb-false _ _ e in let two : tx .«tx_sp_cnt» ≡ 2 = omega (arith, n, t .left, t .few) in eq-eqb _ _ two))
+    joins (joins (joins (watching p len (t .watches)) (ap not (ne-eqb _ _ (t .released)))) (ap not (t .fell)))
+    (in-time (tx .«tx_sp_cnt») (eqb (tx .«tx_sp_cnt») 1) refl (t .left) (t .few))
+  where
+    in-time : (n : ℕ) (b : Bool) → eqb n 1 ≡ b → 1 ≤ n → n ≤ 2 → third-or-fourth n ≡ true
+    in-time n true one from to = or-on one (eqb n 2)
+    in-time n false other from to = or-off other (eqb n 2) ∙ eq-eqb n 2 (let ne : n ≡ 1 → ⊥ = eqb-false n 1 other in omega (arith, ne))
 
 -- only where it holds is the step a clash
-isClash : TxStep → Bool
+isClash : Step → Bool
 isClash Arm = false
 isClash Yield = false
 isClash End = false
@@ -169,8 +179,8 @@ isClash Clash = true
 isClash Hold = false
 isClash (Drive out) = false
 
-stepped-clash : (x : TxStep) (c : Core) → c .bus .«bus_state» ≡ bus.Tx → stepped x c .bus .«bus_state» ≡ bus.CollisionTx → isClash x ≡ true
-unfolding stepped armed yielded clashed held driven idled idleTick pick isClash
+stepped-clash : (x : Step) (c : Core) → c .bus .«bus_state» ≡ bus.Tx → stepped x c .bus .«bus_state» ≡ bus.CollisionTx → isClash x ≡ true
+unfolding stepped armed yielded clashed held driven idled idleTick silent fell pick isClash
 stepped-clash Arm c e f = absurd (sending-not-breaking (sym e ∙ f))
 stepped-clash Yield c e f = absurd (idle-not-breaking f)
 stepped-clash End c e f = absurd (idle-not-breaking f)
@@ -181,24 +191,23 @@ stepped-clash (Drive high) c e f = absurd (sending-not-breaking (sym e ∙ f))
 step-clash : (tx : Tx) (p : CollisionPolicy) (hb : TxHb) (high : Bool) → isClash (txStep tx p hb high) ≡ true → clashOf tx p (hb .«tx_hb_len») high ≡ true
 unfolding txStep isClash
 step-clash tx p hb high =
-    let P : TxStep → Type 0 = λ (x : TxStep). isClash x ≡ true → clashOf tx p (hb .«tx_hb_len») high ≡ true in
-    cases P (eqb (tx .«tx_armed») 0)
+    let P : Step → Type 0 = λ (x : Step). isClash x ≡ true → clashOf tx p (hb .«tx_hb_len») high ≡ true in
+    cases P (not (eqb (tx .«tx_armed») 0))
+    (λ _. cases P (not high && not (tx .«tx_answer»)) (λ _ e. absurd (false≢true e)) (λ _ e. absurd (false≢true e)))
     (λ _. cases P (leb (hb .«tx_hb_len») (tx .«tx_hb_cnt»)) (λ _ e. absurd (false≢true e))
     (λ _. cases P (clashOf tx p (hb .«tx_hb_len») high) (λ c _. c)
-    (λ _. cases P (eqb (tx .«tx_sp_cnt») 0)
-    (λ _. cases P (leb 7 (tx .«tx_hb_cnt» / 8)) (λ _ e. absurd (false≢true e)) (λ _ e. absurd (false≢true e)))
-    (λ _ e. absurd (false≢true e)))))
-    (λ _. cases P high (λ _ e. absurd (false≢true e)) (λ _. cases P (tx .«tx_answer») (λ _ e. absurd (false≢true e)) (λ _ e. absurd (false≢true e))))
+    (λ _. cases P (not (eqb (tx .«tx_sp_cnt») 0)) (λ _ e. absurd (false≢true e))
+    (λ _. cases P (leb 56 (tx .«tx_hb_cnt»)) (λ _ e. absurd (false≢true e)) (λ _ e. absurd (false≢true e))))))
 
 -- ---- what is told of it
-clashed-told : (x : TxStep) (s : DaliBitbangPhy) (c : Core) → isClash x ≡ true → c .told .«tx_yielded» ≡ false → c .told .«tx_collision» ≡ 0
+clashed-told : (x : Step) (s : DaliBitbangPhy) (c : Core) → isClash x ≡ true → c .told .«tx_yielded» ≡ false → c .told .«tx_collision» ≡ 0
     → (polled (withCore s (stepped x c)) .answer ≡ Collision) × (stepped x c .bus .«driven_high» ≡ c .bus .«driven_high»)
 unfolding isClash stepped clashed polled
 clashed-told Arm s c e calm none = absurd (false≢true e)
 clashed-told Yield s c e calm none = absurd (false≢true e)
 clashed-told End s c e calm none = absurd (false≢true e)
 clashed-told Clash s c e calm none =
-    (rw none (simp (on-false calm, on-false (ne-eqb 1 0 (λ f. let no : ⊥ = omega (arith, f) in no)))), refl)
+    (rw none (simp (on-false calm, on-true (ap not (ne-eqb 1 0 (λ f. let no : ⊥ = omega (arith, f) in no))))), refl)
 clashed-told Hold s c e calm none = absurd (false≢true e)
 clashed-told (Drive high) s c e calm none = absurd (false≢true e)
 
@@ -210,7 +219,7 @@ pub breaking-clash : (s : DaliBitbangPhy) (level : Bool) → IsSending s → IsB
     → clashOf (s .core .tx) (s .core .«collision_policy») (toSend s) level ≡ true
 unfolding heardOf
 breaking-clash s level sending breaking =
-    let x : TxStep = txStep (s .core .tx) (s .core .«collision_policy») (s .«tx_hb») level in
+    let x : Step = txStep (s .core .tx) (s .core .«collision_policy») (s .«tx_hb») level in
     let e : tickOf s level ≡ withCore s (stepped x (heardOf (s .core) level)) = tick-by s level sending x refl in
     step-clash (s .core .tx) (s .core .«collision_policy») (s .«tx_hb») level
     (stepped-clash x (heardOf (s .core) level) sending (sym (ap (λ (t : DaliBitbangPhy). t .core .bus .«bus_state») e) ∙ breaking))
@@ -219,7 +228,7 @@ pub clash-seen : ClashSeen
 unfolding txTick heardOf In
 clash-seen s r sending level breaking =
     let c : Core = heardOf (s .core) level in
-    let x : TxStep = txStep (c .tx) (c .«collision_policy») (s .«tx_hb») level in
+    let x : Step = txStep (c .tx) (c .«collision_policy») (s .«tx_hb») level in
     let e : tickOf s level ≡ withCore s (stepped x c) = tick-tx s level sending in
     let is : isClash x ≡ true = stepped-clash x c sending (sym (ap (λ (t : DaliBitbangPhy). t .core .bus .«bus_state») e) ∙ breaking) in
     let t : Told (s .core .tx) (s .core .«collision_policy») (toSend s) level = clash-told _ _ _ _ (breaking-clash s level sending breaking) in

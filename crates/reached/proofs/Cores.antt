@@ -2,7 +2,7 @@
 use Prim.Native.Nat.{ℕ, _+_, _*_, _/_, _%_, _≤_, _<_, min}
 use native.Mathlib.Omega.{arith}
 use native.Mathlib.Decide.{decLt}
-use mathlib.Core.Bool.{Bool, true, false, false≢true}
+use mathlib.Core.Bool.{Bool, true, false, not, _&&_, false≢true}
 use mathlib.Core.Path.{_≡_, refl, sym, ap, subst, _∙_}
 use lib.Dec.{ltb, leb, eqb}
 use borrow.Author.Tests.{ltb-true, ltb-false, eqb-true, eqb-false}
@@ -10,8 +10,6 @@ use Rattle.laws.specs.Pick.{pick}
 use Rattle.laws.proofs.Picked.{on-false, cases}
 use Rattle.machine.specs.declared.BusState.{BusState}
 use Rattle.machine.specs.declared.BusState.the-variants as bus
-use Rattle.machine.specs.declared.TxStep.{TxStep}
-use Rattle.machine.specs.declared.TxStep.the-variants.{Arm, Yield, End, Clash, Hold, Drive}
 use Rattle.machine.specs.declared.Runs.{Runs}
 use Rattle.machine.specs.declared.Bus.{Bus}
 use Rattle.machine.specs.declared.Rx.{Rx}
@@ -22,15 +20,14 @@ use Rattle.machine.specs.declared.CollisionPolicy.{CollisionPolicy}
 use Rattle.machine.specs.declared.Core.{Core}
 use Rattle.machine.specs.declared.TxHb.{TxHb}
 use Rattle.machine.specs.declared.RxState.the-variants.{Empty, Completed}
-use Rattle.machine.specs.Groups.{withTold, received, telling}
+use Rattle.machine.specs.Fields.{withRx, withRxState, withTxCollision, withTxIdleAfterBreak, withTxYielded}
 use Rattle.machine.specs.Runs.{heardOf}
 use Rattle.machine.specs.BecomingIdle.{idled}
-use Rattle.machine.specs.Sampling.{sampled, highRun, finished, rxTick, goesOn}
-use Rattle.machine.specs.Idle.{idleTick, entered}
-use Rattle.machine.specs.Sending.{clashOf, txStep, armed, yielded, clashed, held, driven, stepped, txTick}
+use Rattle.fsm.specs.Rx.{sampled, highRun, finished, goesOn}
+use Rattle.machine.specs.Idle.{idleTick, entered, silent, fell}
+use Rattle.machine.specs.Sending.{Step, Arm, Yield, End, Clash, Hold, Drive, clashOf, txStep, armed, yielded, clashed, held, driven, stepped, txTick}
 use Rattle.machine.specs.Collision.{broke, collisionTick}
 use Rattle.machine.specs.Starting.{loaded}
-use Rattle.machine.specs.Acting.{actOf}
 use Rattle.reached.specs.Invariants.{isReceiving}
 
 -- ---- in any state
@@ -103,7 +100,7 @@ idled-good c e = record {
 
 -- the tick that ended it was low
 first-low : (c : Core) → c .runs .«high_run_ticks» ≡ 0 → Ended c → Good (idleTick (idled c) false)
-unfolding idleTick idled In pick
+unfolding idleTick silent fell idled In pick
 first-low c low e = record {
   any = e .any;
   state = record { receiving = e .receiving; released = refl; busy = refl; debounce = omega arith; fell = λ h. low; counted = omega arith };
@@ -178,7 +175,7 @@ runs-agree true idle run e le = omega (arith, e, le)
 runs-agree false idle run e le = refl
 
 -- ---- only a low tick yields
-abbrev isYield : TxStep → Bool
+abbrev isYield : Step → Bool
 isYield Arm = false
 isYield Yield = true
 isYield End = false
@@ -186,26 +183,39 @@ isYield Clash = false
 isYield Hold = false
 isYield (Drive out) = false
 
-not-yield : (x : TxStep) → isYield x ≡ false → x ≡ Yield → ⊥
+not-yield : (x : Step) → isYield x ≡ false → x ≡ Yield → ⊥
 not-yield x other e = false≢true (sym other ∙ ap isYield e)
 
 yields-low : (tx : Tx) (policy : CollisionPolicy) (hb : TxHb) (high : Bool) → txStep tx policy hb high ≡ Yield → high ≡ false
 unfolding txStep
 yields-low tx policy hb high =
-    let P : TxStep → Type 0 = λ (x : TxStep). x ≡ Yield → high ≡ false in
-    cases P (eqb (tx .«tx_armed») 0)
+    let P : Step → Type 0 = λ (x : Step). x ≡ Yield → high ≡ false in
+    cases P (not (eqb (tx .«tx_armed») 0))
+    (λ _. cases P (not high && not (tx .«tx_answer»)) (λ low _. both-low high (tx .«tx_answer») low) (λ _ e. absurd (not-yield Arm refl e)))
     (λ _. cases P (leb (hb .«tx_hb_len») (tx .«tx_hb_cnt»)) (λ _ e. absurd (not-yield End refl e))
     (λ _. cases P (clashOf tx policy (hb .«tx_hb_len») high) (λ _ e. absurd (not-yield Clash refl e))
-    (λ _. cases P (eqb (tx .«tx_sp_cnt») 0)
-    (λ _. cases P (leb 7 (tx .«tx_hb_cnt» / 8)) (λ _ e. absurd (not-yield End refl e)) (λ _ e. absurd (not-yield (Drive _) refl e)))
-    (λ _ e. absurd (not-yield Hold refl e)))))
-    (λ _. cases P high (λ _ e. absurd (not-yield Arm refl e)) (λ low _. low))
+    (λ _. cases P (not (eqb (tx .«tx_sp_cnt») 0)) (λ _ e. absurd (not-yield Hold refl e))
+    (λ _. cases P (leb 56 (tx .«tx_hb_cnt»)) (λ _ e. absurd (not-yield End refl e)) (λ _ e. absurd (not-yield (Drive _) refl e))))))
+  where
+    both-low : (high answer : Bool) → (not high && not answer) ≡ true → high ≡ false
+    both-low true answer e = absurd (false≢true e)
+    both-low false answer e = refl
+
+-- ---- what a tick leaves of a core that has heard the level
+abbrev pub rxCore : Core → Bool → Core
+rxCore c high = pick (goesOn (sampled (c .rx) high)) (withRx c (sampled (c .rx) high)) (finished c (sampled (c .rx) high))
+
+unfoldable pub coreAfter : BusState → Core → TxHb → Bool → Core
+coreAfter bus.Idle c hb high = idleTick c high
+coreAfter bus.Rx c hb high = rxCore c high
+coreAfter bus.Tx c hb high = txTick c hb high
+coreAfter bus.CollisionTx c hb high = collisionTick c high
 
 module _ (c : Core) (a : AnyOf c) where
   -- ---- Idle
   module _ (i : InIdle (c .runs) (c .bus) (c .told .«rx_state»)) (e : c .bus .«bus_state» ≡ bus.Idle) where
     idle-good : (high : Bool) → Good (idleTick (heardOf c high) high)
-    unfolding idleTick heardOf pick In entered sampled highRun isReceiving
+    unfolding idleTick silent fell heardOf pick In entered sampled highRun isReceiving
     idle-good true = record {
       any = heard-any c true a;
       state = rw e (record { receiving = i .receiving; released = i .released; busy = i .busy; debounce = omega arith; fell = λ h. absurd (not-below h); counted = up _ _ (i .counted) });
@@ -233,8 +243,8 @@ module _ (c : Core) (a : AnyOf c) where
 
   -- ---- Rx
   module _ (i : InRx (c .runs) (c .bus) (c .rx) (c .told .«rx_state»)) (e : c .bus .«bus_state» ≡ bus.Rx) where
-    pub rx-good : (high : Bool) → Good (rxTick (heardOf c high) high)
-    unfolding rxTick heardOf finished In isReceiving
+    pub rx-good : (high : Bool) → Good (rxCore (heardOf c high) high)
+    unfolding heardOf finished In isReceiving
     rx-good high =
         let r : Rx = sampled (c .rx) high in
         let k : Sampled high (c .rx .«rx_idle») r = sampled-keeps (c .rx) high (i .bits) (i .place) (i .enough) in
@@ -274,7 +284,7 @@ module _ (c : Core) (a : AnyOf c) where
     no-collision : 0 < c .told .«tx_collision» → ⊥
     no-collision h = omega (arith, h, i .clear)
 
-    step-good : (high : Bool) (x : TxStep) → (x ≡ Yield → high ≡ false) → Good (stepped x (heardOf c high))
+    step-good : (high : Bool) (x : Step) → (x ≡ Yield → high ≡ false) → Good (stepped x (heardOf c high))
     unfolding stepped armed yielded clashed held driven heardOf In
     step-good high Arm low = record { any = heard-any c high a; state = rw e i }
     step-good high Yield low =
@@ -312,14 +322,18 @@ loaded-good c answer a = record {
 }
 
 -- ---- any tick
-pub act-good : (b : BusState) (c : Core) (hb : TxHb) (high : Bool) → c .bus .«bus_state» ≡ b → Good c → Good (actOf b (heardOf c high) hb high)
-unfolding actOf In
+pub act-good : (b : BusState) (c : Core) (hb : TxHb) (high : Bool) → c .bus .«bus_state» ≡ b → Good c → Good (coreAfter b (heardOf c high) hb high)
+unfolding coreAfter In
 act-good bus.Idle c hb high e g = idle-good c (g .any) (subst (λ (x : BusState). In x (c .runs) (c .bus) (c .rx) (c .told)) e (g .state)) e high
 act-good bus.Rx c hb high e g = rx-good c (g .any) (subst (λ (x : BusState). In x (c .runs) (c .bus) (c .rx) (c .told)) e (g .state)) e high
 act-good bus.Tx c hb high e g = tx-good c (g .any) (subst (λ (x : BusState). In x (c .runs) (c .bus) (c .rx) (c .told)) e (g .state)) e hb high
 act-good bus.CollisionTx c hb high e g = break-good c (g .any) (subst (λ (x : BusState). In x (c .runs) (c .bus) (c .rx) (c .told)) e (g .state)) e high
 
 -- ---- what is told
+-- the marks that calls clear, and the mark of a capture
+abbrev pub telling : Core → ℕ → Bool → Bool → Core
+telling c collision idle yielded = withTxYielded (withTxIdleAfterBreak (withTxCollision c collision) idle) yielded
+
 -- marks that are cleared or stay
 stays-false : (x y : Bool) → (x ≡ true → y ≡ true) → y ≡ false → x ≡ false
 stays-false true y h e = absurd (false≢true (sym e ∙ h refl))
@@ -344,12 +358,12 @@ module _ (c : Core) (g : Good c) where
     }
 
   module _ (done : c .told .«rx_state» ≡ Completed) where
-    taken-in : (b : BusState) → In b (c .runs) (c .bus) (c .rx) (c .told) → In b (c .runs) (c .bus) (c .rx) (received c Empty)
+    taken-in : (b : BusState) → In b (c .runs) (c .bus) (c .rx) (c .told) → In b (c .runs) (c .bus) (c .rx) (withRxState c Empty .told)
     unfolding In isReceiving
     taken-in bus.Idle i = record { receiving = refl; released = i .released; busy = i .busy; debounce = i .debounce; fell = i .fell; counted = i .counted }
     taken-in bus.Rx i = absurd (false≢true (sym (ap isReceiving done) ∙ i .receiving))
     taken-in bus.Tx i = record { receiving = refl; busy = i .busy; unmarked = i .unmarked; clear = i .clear; kept = i .kept }
     taken-in bus.CollisionTx i = record { receiving = refl; busy = i .busy; unmarked = i .unmarked; kept = i .kept }
 
-    pub taken-good : Good (withTold c (received c Empty))
+    pub taken-good : Good (withRxState c Empty)
     taken-good = record { any = g .any; state = taken-in (c .bus .«bus_state») (g .state) }

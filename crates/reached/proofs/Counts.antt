@@ -12,23 +12,21 @@ use Rattle.laws.proofs.Picked.{cases}
 use Rattle.halfbits.specs.declared.HalfBitBuffer.{HalfBitBuffer}
 use Rattle.machine.specs.declared.BusState.{BusState}
 use Rattle.machine.specs.declared.BusState.the-variants as bus
-use Rattle.machine.specs.declared.TxStep.{TxStep}
-use Rattle.machine.specs.declared.TxStep.the-variants.{Arm, Yield, End, Clash, Hold, Drive}
 use Rattle.machine.specs.declared.Runs.{Runs}
 use Rattle.machine.specs.declared.Core.{Core}
 use Rattle.machine.specs.Runs.{heardOf}
 use Rattle.machine.specs.BecomingIdle.{idled}
-use Rattle.machine.specs.Sampling.{sampled, goesOn, finished, rxTick}
-use Rattle.machine.specs.Idle.{idleTick, entered}
-use Rattle.machine.specs.Sending.{armed, yielded, clashed, held, driven, stepped, txTick}
+use Rattle.fsm.specs.Rx.{sampled, goesOn, finished, rxTick, notified, wentOn}
+use Rattle.machine.specs.Idle.{idleTick, entered, silent, fell}
+use Rattle.machine.specs.Sending.{Step, Arm, Yield, End, Clash, Hold, Drive, armed, yielded, clashed, held, driven, stepped, txTick}
 use Rattle.machine.specs.Collision.{broke, collisionTick}
 use Rattle.machine.specs.Starting.{loaded}
 use Rattle.fsm.specs.declared.DaliBitbangPhy.{DaliBitbangPhy}
 use Rattle.fsm.specs.declared.Started.{Started}
 use Rattle.fsm.specs.declared.StartAnswer.the-variants as start
-use Rattle.fsm.specs.Receiving.{storedRx, finishedRx}
 use Rattle.fsm.specs.Ticking.{tickOf}
-use Rattle.fsm.specs.Starting.{isIdle, hears, lengthFits, startedWith, loadedWith, started, startTx, startAnswer}
+use Rattle.fsm.specs.Starting.{lengthFits, startedWith, loadedWith, started, startTx, startAnswer}
+use Rattle.machine.specs.States.{isIdle, hears}
 use Rattle.reached.specs.Calls.{Call, tick, start-tx, start-answer, poll, take-idle, take-rx, acknowledge, policy, after, afterAll, isBetween}
 use Rattle.reached.specs.Ticks.{IsIdle, levelIn, levelsIn}
 use Rattle.reached.specs.OverTicks.{BecomesIdle, RunLengths}
@@ -43,8 +41,8 @@ not-idle : (b : BusState) → isIdle b ≡ false → b ≡ bus.Idle → ⊥
 unfolding isIdle
 not-idle b e f = false≢true (sym e ∙ ap isIdle f)
 
-step-fits : (x : TxStep) (c : Core) → c .bus .«bus_state» ≡ bus.Tx → Fits (stepped x c)
-unfolding stepped armed yielded clashed held driven idled idleTick pick isIdle
+step-fits : (x : Step) (c : Core) → c .bus .«bus_state» ≡ bus.Tx → Fits (stepped x c)
+unfolding stepped armed yielded clashed held driven idled idleTick silent fell pick isIdle
 step-fits Arm c e f = absurd (idle-not-sending (sym f ∙ e))
 step-fits Yield c e f = refl
 step-fits End c e f = refl
@@ -53,22 +51,19 @@ step-fits Hold c e f = absurd (idle-not-sending (sym f ∙ e))
 step-fits (Drive high) c e f = absurd (idle-not-sending (sym f ∙ e))
 
 break-fits : (c : Core) (high : Bool) → c .bus .«bus_state» ≡ bus.CollisionTx → Fits (collisionTick c high)
-unfolding collisionTick broke idled idleTick pick
+unfolding collisionTick broke idled idleTick silent fell pick
 break-fits c high e =
     cases Fits (leb 14 ((c .tx .«tx_sp_cnt» + 1) % 256)) (λ _. cases Fits high (λ _ _. refl) (λ _ _. refl)) (λ _ f. absurd (idle-not-breaking (sym f ∙ e)))
 
-rx-fits : (c : Core) (high : Bool) → c .bus .«bus_state» ≡ bus.Rx → Fits (rxTick c high)
-unfolding rxTick finished idled isIdle
-rx-fits c high e = cases Fits (goesOn (sampled (c .rx) high)) (λ _ f. absurd (not-idle bus.Rx refl (sym e ∙ f))) (λ _ _. refl)
-
-stored-fits : (s : DaliBitbangPhy) (c : Core) (high : Bool) → c .bus .«bus_state» ≡ bus.Rx → Fits (storedRx s c high .core)
-unfolding storedRx finishedRx
-stored-fits s c high e = cases (λ (t : DaliBitbangPhy). Fits (t .core)) (goesOn (sampled (c .rx) high)) (λ _. rx-fits c high e) (λ _. rx-fits c high e)
+rx-fits : (s : DaliBitbangPhy) (c : Core) (high : Bool) → c .bus .«bus_state» ≡ bus.Rx → Fits (rxTick s c high .core)
+unfolding rxTick wentOn notified finished idled isIdle
+rx-fits s c high e =
+    cases (λ (t : DaliBitbangPhy). Fits (t .core)) (goesOn (sampled (c .rx) high)) (λ _ f. absurd (not-idle bus.Rx refl (sym e ∙ f))) (λ _ _. refl)
 
 idle-fits : (s : DaliBitbangPhy) (high : Bool) (b : BusState) → s .core .bus .«bus_state» ≡ b → (IsIdle s → ⊥) → Fits (tickOf s high .core)
 unfolding heardOf txTick
 idle-fits s high bus.Idle e other = absurd (other e)
-idle-fits s high bus.Rx e other = rw (tick-rx s high e) (stored-fits s (heardOf (s .core) high) high e)
+idle-fits s high bus.Rx e other = rw (tick-rx s high e) (rx-fits s (heardOf (s .core) high) high e)
 idle-fits s high bus.Tx e other = rw (tick-tx s high e) (step-fits _ (heardOf (s .core) high) e)
 idle-fits s high bus.CollisionTx e other = rw (tick-break s high e) (break-fits (heardOf (s .core) high) high e)
 
@@ -78,13 +73,13 @@ becomes-idle s level other idle = idle-fits s level (s .core .bus .«bus_state»
 
 -- ---- the runs: a tick does to them what it hears, and no other call changes them
 idle-runs : (c : Core) (high : Bool) → idleTick c high .runs ≡ c .runs
-unfolding idleTick entered
+unfolding idleTick silent fell entered
 idle-runs c high =
     let P : Core → Type 0 = λ (d : Core). d .runs ≡ c .runs in
     cases P high (λ _. refl) (λ _. cases P (ltb (min (c .bus .«rx_debounce» + 1) 255) 2) (λ _. refl) (λ _. refl))
 
-step-runs : (x : TxStep) (c : Core) → stepped x c .runs ≡ c .runs
-unfolding stepped armed yielded clashed held driven idled idleTick pick
+step-runs : (x : Step) (c : Core) → stepped x c .runs ≡ c .runs
+unfolding stepped armed yielded clashed held driven idled idleTick silent fell pick
 step-runs Arm c = refl
 step-runs Yield c = refl
 step-runs End c = refl
@@ -93,23 +88,19 @@ step-runs Hold c = refl
 step-runs (Drive high) c = refl
 
 break-runs : (c : Core) (high : Bool) → collisionTick c high .runs ≡ c .runs
-unfolding collisionTick broke idled idleTick pick
+unfolding collisionTick broke idled idleTick silent fell pick
 break-runs c high =
     let P : Core → Type 0 = λ (d : Core). d .runs ≡ c .runs in
     cases P (leb 14 ((c .tx .«tx_sp_cnt» + 1) % 256)) (λ _. cases P high (λ _. refl) (λ _. refl)) (λ _. refl)
 
-rx-runs : (c : Core) (high : Bool) → rxTick c high .runs ≡ c .runs
-unfolding rxTick finished idled
-rx-runs c high = cases (λ (d : Core). d .runs ≡ c .runs) (goesOn (sampled (c .rx) high)) (λ _. refl) (λ _. refl)
-
-stored-runs : (s : DaliBitbangPhy) (c : Core) (high : Bool) → storedRx s c high .core .runs ≡ c .runs
-unfolding storedRx finishedRx
-stored-runs s c high = cases (λ (t : DaliBitbangPhy). t .core .runs ≡ c .runs) (goesOn (sampled (c .rx) high)) (λ _. rx-runs c high) (λ _. rx-runs c high)
+rx-runs : (s : DaliBitbangPhy) (c : Core) (high : Bool) → rxTick s c high .core .runs ≡ c .runs
+unfolding rxTick wentOn notified finished idled
+rx-runs s c high = cases (λ (t : DaliBitbangPhy). t .core .runs ≡ c .runs) (goesOn (sampled (c .rx) high)) (λ _. refl) (λ _. refl)
 
 tick-runs : (s : DaliBitbangPhy) (high : Bool) (b : BusState) → s .core .bus .«bus_state» ≡ b → tickOf s high .core .runs ≡ heardOf (s .core) high .runs
 unfolding txTick
 tick-runs s high bus.Idle e = rw (tick-idle s high e) (idle-runs (heardOf (s .core) high) high)
-tick-runs s high bus.Rx e = rw (tick-rx s high e) (stored-runs s (heardOf (s .core) high) high)
+tick-runs s high bus.Rx e = rw (tick-rx s high e) (rx-runs s (heardOf (s .core) high) high)
 tick-runs s high bus.Tx e = rw (tick-tx s high e) (step-runs _ (heardOf (s .core) high))
 tick-runs s high bus.CollisionTx e = rw (tick-break s high e) (break-runs (heardOf (s .core) high) high)
 

@@ -3,35 +3,32 @@ use Prim.Native.Nat.{ℕ, suc, _+_, _/_, _%_, _≤_, _<_}
 use native.Mathlib.Omega.{arith}
 use native.Mathlib.Decide.{decLt}
 use native.Mathlib.Nat.{not-suc-le-zero, zero-add}
-use mathlib.Core.Bool.{Bool, true, false, false≢true}
+use mathlib.Core.Bool.{Bool, true, false, false≢true, not, _&&_}
 use mathlib.Core.List.{List}
 use mathlib.Core.Logic.{_⊎_, inl, inr, ⊎-elim}
 use mathlib.Core.Path.{_≡_, refl, sym, _∙_, ap, subst}
 use lib.Dec.{eqb, leb}
-use lib.ListN.{getD}
 use borrow.Author.Tests.{eqb-true, eq-eqb, ne-eqb, leb-true, leb-false, le-leb, lt-leb}
 use Rattle.laws.specs.Bit.{bit}
 use Rattle.laws.specs.Pick.{pick}
 use Rattle.laws.proofs.Picked.{on-true, on-false, cases}
+use Rattle.laws.proofs.Joined.{is}
 use Rattle.machine.specs.declared.BusState.{BusState}
 use Rattle.machine.specs.declared.BusState.the-variants as bus
 use Rattle.machine.specs.declared.CollisionPolicy.{CollisionPolicy}
-use Rattle.machine.specs.declared.TxStep.{TxStep}
-use Rattle.machine.specs.declared.TxStep.the-variants.{Arm, Yield, End, Clash, Hold, Drive}
 use Rattle.machine.specs.declared.Tx.{Tx}
 use Rattle.machine.specs.declared.TxHb.{TxHb}
 use Rattle.machine.specs.declared.Core.{Core}
 use Rattle.machine.specs.Runs.{heardOf}
 use Rattle.machine.specs.BecomingIdle.{idled}
-use Rattle.machine.specs.Idle.{idleTick}
-use Rattle.machine.specs.Sending.{clashOf, releasesAt, txStep, armed, yielded, clashed, held, driven, stepped, txTick}
-use Rattle.machine.specs.Acting as machine
+use Rattle.machine.specs.Idle.{idleTick, silent, fell}
+use Rattle.machine.specs.Sending.{Step, Arm, Yield, End, Clash, Hold, Drive, clashOf, releasesAt, txStep, armed, yielded, clashed, held, driven, stepped, txTick}
 use Rattle.fsm.specs.declared.DaliBitbangPhy.{DaliBitbangPhy}
 use Rattle.fsm.specs.declared.TxPollResult.the-variants.{Ok, Yielded}
 use Rattle.fsm.specs.Station.{withCore}
-use Rattle.fsm.specs.Ticking.{isRx, actOf, tickOf}
-use Rattle.fsm.specs.Starting.{hears}
-use Rattle.fsm.specs.Polling.{isTx, polled}
+use Rattle.fsm.specs.Ticking.{actOf, tickOf}
+use Rattle.machine.specs.States.{hears, isTx}
+use Rattle.fsm.specs.Polling.{polled}
 use Rattle.reached.specs.Calls.{Call, tick, after, afterAll, called}
 use Rattle.reached.specs.Ticks.{drives, IsIdle, IsSending, IsBreaking, levelsIn, ticksIn}
 use Rattle.reached.specs.OverTicks.{begun, toSend, Begins, HalfBitsDriven, IsClash, HalfBitTicks, NoLow, LastHalfBit, SentWhole}
@@ -44,7 +41,7 @@ use Rattle.reached.proofs.Breaking.{tick-on}
 use Rattle.reached.proofs.ByState.{tick-tx, tick-by, sending-not-breaking, idle-not-breaking, idle-not-sending}
 
 -- ---- the tick that begins a half-bit
-isDrive : TxStep → Bool
+isDrive : Step → Bool
 isDrive Arm = false
 isDrive Yield = false
 isDrive End = false
@@ -55,8 +52,8 @@ isDrive (Drive out) = true
 no-more : (n : ℕ) → n ≡ n + 1 → ⊥
 no-more n e = omega (arith, e)
 
-counts-drive : (x : TxStep) (c : Core) → stepped x c .tx .«tx_hb_cnt» ≡ c .tx .«tx_hb_cnt» + 1 → isDrive x ≡ true
-unfolding stepped armed yielded clashed held driven idled idleTick pick isDrive
+counts-drive : (x : Step) (c : Core) → stepped x c .tx .«tx_hb_cnt» ≡ c .tx .«tx_hb_cnt» + 1 → isDrive x ≡ true
+unfolding stepped armed yielded clashed held driven idled idleTick silent fell pick isDrive
 counts-drive Arm c e = absurd (no-more _ e)
 counts-drive Yield c e = absurd (no-more _ e)
 counts-drive End c e = absurd (no-more _ e)
@@ -64,29 +61,25 @@ counts-drive Clash c e = absurd (no-more _ e)
 counts-drive Hold c e = absurd (no-more _ e)
 counts-drive (Drive out) c e = refl
 
-abbrev bitAt : TxHb → ℕ → Bool
-bitAt hb k = releasesAt (getD (hb .«tx_hb_data») (k / 8) 0) k
-
-record Drew (tx : Tx) (hb : TxHb) (x : TxStep) : Type 0 where
+record Drew (tx : Tx) (hb : TxHb) (x : Step) : Type 0 where
   unarmed : tx .«tx_armed» ≡ 0
   more : tx .«tx_hb_cnt» < hb .«tx_hb_len»
-  out : x ≡ Drive (bitAt hb (tx .«tx_hb_cnt»))
+  out : x ≡ Drive (releasesAt hb (tx .«tx_hb_cnt»))
 
 drew : (tx : Tx) (p : CollisionPolicy) (hb : TxHb) (high : Bool) → isDrive (txStep tx p hb high) ≡ true → Drew tx hb (txStep tx p hb high)
 unfolding txStep isDrive
 drew tx p hb high =
-    let P : TxStep → Type 0 = λ (x : TxStep). isDrive x ≡ true → Drew tx hb x in
-    cases P (eqb (tx .«tx_armed») 0)
+    let P : Step → Type 0 = λ (x : Step). isDrive x ≡ true → Drew tx hb x in
+    cases P (not (eqb (tx .«tx_armed») 0))
+    (λ _. cases P (not high && not (tx .«tx_answer»)) (λ _ e. absurd (false≢true e)) (λ _ e. absurd (false≢true e)))
     (λ un. cases P (leb (hb .«tx_hb_len») (tx .«tx_hb_cnt»)) (λ _ e. absurd (false≢true e))
     (λ more. cases P (clashOf tx p (hb .«tx_hb_len») high) (λ _ e. absurd (false≢true e))
-    (λ _. cases P (eqb (tx .«tx_sp_cnt») 0)
-    (λ _. cases P (leb 7 (tx .«tx_hb_cnt» / 8)) (λ _ e. absurd (false≢true e))
-    (λ _ _. record { unarmed = eqb-true _ _ un; more = leb-false _ _ more; out = refl }))
-    (λ _ e. absurd (false≢true e)))))
-    (λ _. cases P high (λ _ e. absurd (false≢true e)) (λ _. cases P (tx .«tx_answer») (λ _ e. absurd (false≢true e)) (λ _ e. absurd (false≢true e))))
+    (λ _. cases P (not (eqb (tx .«tx_sp_cnt») 0)) (λ _ e. absurd (false≢true e))
+    (λ _. cases P (leb 56 (tx .«tx_hb_cnt»)) (λ _ e. absurd (false≢true e))
+    (λ _ _. record { unarmed = eqb-true _ _ (is _ un); more = leb-false _ _ more; out = refl })))))
 
 module _ (s : DaliBitbangPhy) (level : Bool) (b : Begins s level) where
-  step : TxStep
+  step : Step
   step = txStep (s .core .tx) (s .core .«collision_policy») (s .«tx_hb») level
 
   ticked : tickOf s level ≡ withCore s (stepped step (heardOf (s .core) level))
@@ -99,9 +92,9 @@ module _ (s : DaliBitbangPhy) (level : Bool) (b : Begins s level) where
       drew (s .core .tx) (s .core .«collision_policy») (s .«tx_hb») level
       (counts-drive step (heardOf (s .core) level) (sym (ap (λ (t : DaliBitbangPhy). begun t) ticked) ∙ b .one-more))
 
-  pub begin-tick : tickOf s level ≡ withCore s (driven (heardOf (s .core) level) (bitAt (s .«tx_hb») (begun s)))
+  pub begin-tick : tickOf s level ≡ withCore s (driven (heardOf (s .core) level) (releasesAt (s .«tx_hb») (begun s)))
   unfolding stepped
-  begin-tick = ticked ∙ ap (λ (x : TxStep). withCore s (stepped x (heardOf (s .core) level))) (is-drive .out)
+  begin-tick = ticked ∙ ap (λ (x : Step). withCore s (stepped x (heardOf (s .core) level))) (is-drive .out)
 
 pub half-bits-driven : HalfBitsDriven
 unfolding driven heardOf
@@ -129,13 +122,13 @@ half-begins s level b =
 module _ (first : DaliBitbangPhy) (more : begun first < toSend first) (n : ℕ) (t : DaliBitbangPhy) (h : InHalf first n t) (b : Bool) where
   rule : txStep (t .core .tx) (t .core .«collision_policy») (t .«tx_hb») b
       ≡ pick (clashOf (t .core .tx) (t .core .«collision_policy») (toSend t) b) Clash
-      (pick (eqb (t .core .tx .«tx_sp_cnt») 0) (pick (leb 7 (begun t / 8)) End (Drive (bitAt (t .«tx_hb») (begun t)))) Hold)
+      (pick (not (eqb (t .core .tx .«tx_sp_cnt») 0)) Hold (pick (leb 56 (begun t)) End (Drive (releasesAt (t .«tx_hb») (begun t)))))
   unfolding txStep
   rule =
       let within : begun t < toSend t = rw (h .store) (omega (arith, h .count)) in
-      simp (on-true (eq-eqb _ _ (h .unarmed)), on-false (lt-leb _ _ within))
+      simp (on-false (ap not (eq-eqb _ _ (h .unarmed))), on-false (lt-leb _ _ within))
 
-  by : (x : TxStep) → txStep (t .core .tx) (t .core .«collision_policy») (t .«tx_hb») b ≡ x → tickOf t b ≡ withCore t (stepped x (heardOf (t .core) b))
+  by : (x : Step) → txStep (t .core .tx) (t .core .«collision_policy») (t .«tx_hb») b ≡ x → tickOf t b ≡ withCore t (stepped x (heardOf (t .core) b))
   by = tick-by t b (h .sending)
 
   module _ (clash : clashOf (t .core .tx) (t .core .«collision_policy») (toSend t) b ≡ true) where
@@ -148,7 +141,7 @@ module _ (first : DaliBitbangPhy) (more : begun first < toSend first) (n : ℕ) 
     unfolding stepped held heardOf
     hold-tick few =
         let some : t .core .tx .«tx_sp_cnt» ≡ 0 → ⊥ = λ e. omega (arith, h .left, e) in
-        rw (by Hold (rule ∙ on-false calm _ _ ∙ on-false (ne-eqb _ _ some) _ _))
+        rw (by Hold (rule ∙ on-false calm _ _ ∙ on-true (ap not (ne-eqb _ _ some)) _ _))
         (record { sending = h .sending; unarmed = h .unarmed; left = omega (arith, h .left); watch = h .watch; level = h .level; count = h .count; store = h .store })
 
     drive-tick : n ≡ 3 → toSend first ≤ 54 → IsSending (tickOf t b) × (begun (tickOf t b) ≡ begun t + 1)
@@ -156,7 +149,7 @@ module _ (first : DaliBitbangPhy) (more : begun first < toSend first) (n : ℕ) 
     drive-tick last short =
         let none : t .core .tx .«tx_sp_cnt» ≡ 0 = omega (arith, h .left) in
         let at : begun t < 54 = omega (arith, h .count) in
-        rw (by (Drive (bitAt (t .«tx_hb») (begun t))) (rule ∙ on-false calm _ _ ∙ on-true (eq-eqb _ _ none) _ _ ∙ on-false (lt-leb 7 (begun t / 8) (omega arith)) _ _))
+        rw (by (Drive (releasesAt (t .«tx_hb») (begun t))) (rule ∙ on-false calm _ _ ∙ on-false (ap not (eq-eqb _ _ none)) _ _ ∙ on-false (lt-leb 56 (begun t) (omega arith)) _ _))
         (h .sending, let small : (begun t + 1) % 256 ≡ begun t + 1 = omega arith in small)
 
   -- the first and the last two ticks of it: a clash is told by the number of the tick
@@ -297,10 +290,10 @@ end-tick : (first t : DaliBitbangPhy) → InHalf first 0 t → begun first ≡ t
 unfolding txTick txStep stepped heardOf
 end-tick first t h all b =
     let done : toSend t ≤ begun t = rw (h .store) (omega (arith, h .count)) in
-    tick-tx t b (h .sending) ∙ simp (on-true (eq-eqb _ _ (h .unarmed)), on-true (le-leb _ _ done))
+    tick-tx t b (h .sending) ∙ simp (on-false (ap not (eq-eqb _ _ (h .unarmed))), on-true (le-leb _ _ done))
 
 idle-now : (t : DaliBitbangPhy) (b : Bool) → NoLow (withCore t (idled (heardOf (t .core) b)))
-unfolding idled heardOf tickOf actOf isRx machine.actOf idleTick pick
+unfolding idled heardOf tickOf actOf idleTick silent fell pick
 idle-now t b = record { idle = refl; alone = refl }
 
 idle-told : (t : DaliBitbangPhy) (b : Bool) → t .core .told .«tx_yielded» ≡ false → t .core .told .«tx_collision» ≡ 0
@@ -322,22 +315,20 @@ last-half-bit s r level b all calls none next =
 
 -- ---- going Idle
 module _ (s : DaliBitbangPhy) (short : toSend s ≤ 54) (sending : IsSending s) (level : Bool) where
-  Ends : TxStep → Type 0
+  Ends : Step → Type 0
   Ends x = IsIdle (withCore s (stepped x (heardOf (s .core) level))) → (toSend s ≤ begun s) ⊎ (polled (withCore s (stepped x (heardOf (s .core) level))) .answer ≡ Yielded)
 
   whole : Ends (txStep (s .core .tx) (s .core .«collision_policy») (s .«tx_hb») level)
-  unfolding Ends txStep stepped armed yielded clashed held driven idled idleTick heardOf polled pick
+  unfolding Ends txStep stepped armed yielded clashed held driven idled idleTick silent fell heardOf polled pick
   whole =
-      cases Ends (eqb (s .core .tx .«tx_armed») 0)
+      cases Ends (not (eqb (s .core .tx .«tx_armed») 0))
+      (λ _. cases Ends (not level && not (s .core .tx .«tx_answer»)) (λ _ _. inr refl) (λ _ e. absurd (idle-not-sending (sym e ∙ sending))))
       (λ _. cases Ends (leb (toSend s) (begun s)) (λ all _. inl (leb-true _ _ all))
       (λ more. cases Ends (clashOf (s .core .tx) (s .core .«collision_policy») (toSend s) level) (λ _ e. absurd (idle-not-breaking (sym e)))
-      (λ _. cases Ends (eqb (s .core .tx .«tx_sp_cnt») 0)
-      (λ _. cases Ends (leb 7 (begun s / 8)) (λ used _. absurd (room (leb-false _ _ more) (leb-true _ _ used))) (λ _ e. absurd (idle-not-sending (sym e ∙ sending))))
-      (λ _ e. absurd (idle-not-sending (sym e ∙ sending))))))
-      (λ _. cases Ends level (λ _ e. absurd (idle-not-sending (sym e ∙ sending)))
-      (λ _. cases Ends (s .core .tx .«tx_answer») (λ _ e. absurd (idle-not-sending (sym e ∙ sending))) (λ _ _. inr refl)))
+      (λ _. cases Ends (not (eqb (s .core .tx .«tx_sp_cnt») 0)) (λ _ e. absurd (idle-not-sending (sym e ∙ sending)))
+      (λ _. cases Ends (leb 56 (begun s)) (λ used _. absurd (room (leb-false _ _ more) (leb-true _ _ used))) (λ _ e. absurd (idle-not-sending (sym e ∙ sending)))))))
     where
-      room : begun s < toSend s → 7 ≤ begun s / 8 → ⊥
+      room : begun s < toSend s → 56 ≤ begun s → ⊥
       room more used = omega (arith, short, more, used)
 
 pub sent-whole : SentWhole

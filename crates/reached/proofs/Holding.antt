@@ -5,8 +5,7 @@ use mathlib.Core.Path.{_≡_, refl, sym, subst, _∙_}
 use Rattle.machine.specs.declared.BusState.{BusState}
 use Rattle.machine.specs.declared.BusState.the-variants as bus
 use Rattle.machine.specs.declared.Core.{Core}
-use Rattle.fsm.specs.Ticking.{isRx}
-use Rattle.fsm.specs.Starting.{hears}
+use Rattle.machine.specs.States.{isRx, hears}
 use Rattle.reached.specs.Invariants.{isReceiving, Invariants}
 use Rattle.reached.proofs.Cores.{Good, In, InIdle, InRx}
 use Rattle.reached.proofs.Stations.{Whole, reached-whole}
@@ -74,8 +73,6 @@ invariants s r =
       collisions = g .any .collisions;
       either = g .any .either;
       loads = w .loads;
-      data-whole = w .data-whole;
-      samples-whole = w .samples-whole;
       count-from = λ e. w .counts e .0;
       count-to = λ e. w .counts e .1;
     }

@@ -10,6 +10,7 @@ use mathlib.Core.Logic.{_⊎_}
 use lib.Dec.{leb}
 use lib.ListN.{replicate}
 use borrow.Author.Tests.{le-leb, lt-leb}
+use Rattle.laws.specs.Packed.{packed}
 use Rattle.laws.specs.Pick.{pick}
 use Rattle.laws.specs.Tabulate.{tabulate}
 use Rattle.laws.proofs.Picked.{on-true, on-false}
@@ -18,20 +19,19 @@ use Rattle.machine.specs.declared.BusState.the-variants as bus
 use Rattle.machine.specs.declared.RxState.the-variants.{Completed}
 use Rattle.machine.specs.Runs.{heardOf}
 use Rattle.machine.specs.BecomingIdle.{idled}
-use Rattle.machine.specs.Sampling.{highRun, sampled, finished, rxTick}
-use Rattle.machine.specs.Idle.{entered, idleTick}
-use Rattle.machine.specs.Sending.{watchesOf, clashOf, releasesAt, txStep, armed, clashed, held, driven, stepped, txTick}
+use Rattle.fsm.specs.Rx.{highRun, sampled, finished, filled, notified, rxTick, wentOn}
+use Rattle.machine.specs.Idle.{entered, idleTick, silent, fell}
+use Rattle.machine.specs.Sending.{halfBitsIn, storeOf, watchesOf, clashOf, releasesAt, txStep, armed, clashed, held, driven, stepped, txTick}
 use Rattle.machine.specs.Collision.{broke, collisionTick}
 use Rattle.machine.specs.Starting.{loaded}
-use Rattle.machine.specs.Acting as machine
 use Rattle.fsm.specs.declared.DaliBitbangPhy.{DaliBitbangPhy}
 use Rattle.fsm.specs.declared.TxPollResult.the-variants.{Yielded}
 use Rattle.fsm.specs.Station.{newCore, newStation}
-use Rattle.fsm.specs.Receiving.{filled, finishedRx, storedRx}
-use Rattle.fsm.specs.Ticking.{isRx, actOf, tickOf}
+use Rattle.fsm.specs.Ticking.{actOf, tickOf}
+use Rattle.machine.specs.States.{isTx, isIdle, hears}
 use Rattle.fsm.specs.declared.StartAnswer.the-variants as start
-use Rattle.fsm.specs.Polling.{isTx, polled}
-use Rattle.fsm.specs.Starting.{isIdle, hears, lengthFits, loadedWith, started, startTx, startAnswer}
+use Rattle.fsm.specs.Polling.{polled}
+use Rattle.fsm.specs.Starting.{lengthFits, loadedWith, started, startTx, startAnswer}
 use Rattle.reached.specs.Calls.{Call, tick, start-tx, poll, after, afterAll, isAnswer, NoAnswer, Reached, new, called}
 use Rattle.reached.specs.Ticks.{IsIdle, IsSending, IsBreaking, StaysSending, highsRunning, levelIn, levelsIn}
 use Rattle.reached.specs.OverTicks.{runOf, idleCount, NoLow, OneLow, InIdle, Hears, Captured, begun, toSend, Begins, Drives, Yields, Watches, IsClash, SeesClash, Sent, a-frame, Break}
@@ -91,7 +91,7 @@ record Leads : Type 0 where
   finds-idle : run (times 14 high clash) .core .told .«tx_idle_after_break» ≡ true
 
 leads : Leads
-unfolding times run low high released sends clash capture after newStation newCore tickOf isRx actOf machine.actOf rxTick heardOf idled idleTick entered sampled highRun storedRx filled finishedRx finished startTx isIdle lengthFits started loadedWith loaded txTick txStep clashOf watchesOf releasesAt stepped armed held driven clashed collisionTick broke pick
+unfolding times run low high released sends clash capture after newStation newCore tickOf actOf heardOf idled idleTick silent fell entered sampled highRun rxTick wentOn filled notified finished startTx isIdle lengthFits started loadedWith loaded storeOf halfBitsIn packed txTick txStep clashOf watchesOf releasesAt stepped armed held driven clashed collisionTick broke pick
 leads = record { debounces = refl; receives = refl; completes = refl; sends-it = refl; breaks = refl; collides = refl; finds-idle = refl }
 
 -- ---- what the statements over ticks ask for
@@ -125,7 +125,7 @@ record Asked : Type 0 where
   new-idle : IsIdle newStation
 
 asked : Asked
-unfolding times run low high released sends clash capture after newStation newCore tickOf isRx actOf machine.actOf rxTick heardOf idled idleTick entered sampled highRun storedRx filled finishedRx finished startTx isIdle lengthFits started loadedWith loaded txTick txStep clashOf watchesOf releasesAt stepped armed held driven clashed collisionTick broke pick hears short waits startAnswer Watches afterAll StaysSending polled isTx
+unfolding times run low high released sends clash capture after newStation newCore tickOf actOf heardOf idled idleTick silent fell entered sampled highRun rxTick wentOn filled notified finished startTx isIdle lengthFits started loadedWith loaded storeOf halfBitsIn packed txTick txStep clashOf watchesOf releasesAt stepped armed held driven clashed collisionTick broke pick hears short waits startAnswer Watches afterAll StaysSending polled isTx
 asked = record {
   none-yet = record { idle = refl; alone = refl };
   one-yet = record { idle = refl; second = refl };

@@ -1,56 +1,50 @@
 -- What every call keeps of a station. Assumes nothing.
 use Prim.Native.Nat.{ℕ, _+_, _%_, _≤_, min}
 use native.Mathlib.Omega.{arith}
-use mathlib.Core.Bool.{Bool, true, false, false≢true}
+use mathlib.Core.Bool.{Bool, true, false, not, false≢true}
 use mathlib.Core.Path.{_≡_, refl, sym, ap, subst, _∙_}
-use mathlib.Core.List.{List}
 use lib.Dec.{eqb, ltb, leb}
-use lib.ListN.{length, set, length-set}
 use borrow.Author.Tests.{leb-true}
 use Rattle.laws.specs.Pick.{pick}
+use Rattle.laws.proofs.Joined.{parts}
 use Rattle.laws.proofs.Picked.{on-true, on-false, cases}
 use Rattle.halfbits.specs.declared.HalfBitBuffer.{HalfBitBuffer}
 use Rattle.machine.specs.declared.BusState.{BusState}
 use Rattle.machine.specs.declared.BusState.the-variants as bus
 use Rattle.machine.specs.declared.RxState.{RxState}
 use Rattle.machine.specs.declared.RxState.the-variants.{Empty, Receiving, Completed}
-use Rattle.machine.specs.declared.TxStep.{TxStep}
-use Rattle.machine.specs.declared.TxStep.the-variants.{Arm, Yield, End, Clash, Hold, Drive}
 use Rattle.machine.specs.declared.Rx.{Rx}
 use Rattle.machine.specs.declared.Core.{Core}
-use Rattle.machine.specs.Groups.{withRx}
+use Rattle.machine.specs.Fields.{withRx}
 use Rattle.machine.specs.Runs.{heardOf}
 use Rattle.machine.specs.BecomingIdle.{idled}
-use Rattle.machine.specs.Sampling.{eighth, sampled, goesOn, finished, rxTick}
-use Rattle.machine.specs.Idle.{idleTick, entered}
-use Rattle.machine.specs.Sending.{armed, yielded, clashed, held, driven, stepped, txTick}
+use Rattle.fsm.specs.Rx.{sampled, goesOn, finished, notified, rxTick, wentOn}
+use Rattle.machine.specs.Idle.{idleTick, entered, silent, fell}
+use Rattle.machine.specs.Sending.{Step, Arm, Yield, End, Clash, Hold, Drive, storeOf, armed, yielded, clashed, held, driven, stepped, txTick}
 use Rattle.machine.specs.Collision.{broke, collisionTick}
 use Rattle.machine.specs.Starting.{loaded}
-use Rattle.machine.specs.Acting as machine
 use Rattle.fsm.specs.declared.DaliBitbangPhy.{DaliBitbangPhy}
 use Rattle.fsm.specs.declared.Started.{Started}
 use Rattle.fsm.specs.declared.StartAnswer.the-variants.{Busy}
 use Rattle.fsm.specs.declared.Polled.{Polled}
 use Rattle.fsm.specs.Station.{newCore, newStation, withCore}
-use Rattle.fsm.specs.Receiving.{filled, finishedRx, storedRx}
-use Rattle.fsm.specs.Ticking.{isRx, actOf, tickOf}
-use Rattle.fsm.specs.Starting.{isIdle, hears, lengthFits, startedWith, loadedWith, started, startTx, startAnswer}
-use Rattle.fsm.specs.Polling.{isTx, polled}
+use Rattle.fsm.specs.Ticking.{actOf, tickOf}
+use Rattle.machine.specs.States.{isIdle, hears, isTx}
+use Rattle.fsm.specs.Starting.{lengthFits, startedWith, loadedWith, started, startTx, startAnswer}
+use Rattle.fsm.specs.Polling.{polled}
 use Rattle.fsm.specs.Calls.{withPolicy, tookIdle, acknowledged, tookRx}
 use Rattle.reached.specs.Calls.{Call, tick, start-tx, start-answer, poll, take-idle, take-rx, acknowledge, policy, after, Reached, new, called}
 use Rattle.reached.specs.Invariants.{isReceiving}
-use Rattle.reached.proofs.Cores.{Good, In, act-good, whole, loaded-good, telling-good, taken-good}
+use Rattle.reached.proofs.Cores.{Good, In, rxCore, coreAfter, act-good, whole, loaded-good, telling-good, taken-good}
 
 pub record Whole (s : DaliBitbangPhy) : Type 0 where
   pub core : Good (s .core)
   pub loads : s .«tx_hb» .«tx_hb_len» ≤ 54
-  pub data-whole : length (s .«rx_data») ≡ 64
-  pub samples-whole : length (s .«last_rx» .samples) ≡ 64
   pub counts : s .core .told .«rx_state» ≡ Completed → (3 ≤ s .«last_rx» .«sample_count») × (s .«last_rx» .«sample_count» ≤ 64)
 
 -- only the core changes, and no capture becomes ready
 with-core : (s : DaliBitbangPhy) (c : Core) → Whole s → Good c → (c .told .«rx_state» ≡ Completed → s .core .told .«rx_state» ≡ Completed) → Whole (withCore s c)
-with-core s c w g marks = record { core = g; loads = w .loads; data-whole = w .data-whole; samples-whole = w .samples-whole; counts = λ e. w .counts (marks e) }
+with-core s c w g marks = record { core = g; loads = w .loads; counts = λ e. w .counts (marks e) }
 
 -- ---- the mark of a capture: no tick but the last of Rx sets Completed
 not-receiving : Receiving ≡ Completed → ⊥
@@ -66,13 +60,13 @@ not-empty e = false≢true (ap isCompleted e)
     isCompleted Completed = true
 
 idle-mark : (c : Core) (high : Bool) → idleTick c high .told .«rx_state» ≡ Completed → c .told .«rx_state» ≡ Completed
-unfolding idleTick entered
+unfolding idleTick silent fell entered
 idle-mark c high =
     let P : Core → Type 0 = λ (d : Core). d .told .«rx_state» ≡ Completed → c .told .«rx_state» ≡ Completed in
     cases P high (λ _ e. e) (λ _. cases P (ltb (min (c .bus .«rx_debounce» + 1) 255) 2) (λ _ e. e) (λ _ e. absurd (not-receiving e)))
 
-step-mark : (x : TxStep) (c : Core) → stepped x c .told .«rx_state» ≡ c .told .«rx_state»
-unfolding stepped armed yielded clashed held driven idled idleTick pick
+step-mark : (x : Step) (c : Core) → stepped x c .told .«rx_state» ≡ c .told .«rx_state»
+unfolding stepped armed yielded clashed held driven idled idleTick silent fell pick
 step-mark Arm c = refl
 step-mark Yield c = refl
 step-mark End c = refl
@@ -81,47 +75,26 @@ step-mark Hold c = refl
 step-mark (Drive high) c = refl
 
 break-mark : (c : Core) (high : Bool) → collisionTick c high .told .«rx_state» ≡ c .told .«rx_state»
-unfolding collisionTick broke idled idleTick pick
+unfolding collisionTick broke idled idleTick silent fell pick
 break-mark c high =
     let P : Core → Type 0 = λ (d : Core). d .told .«rx_state» ≡ c .told .«rx_state» in
     cases P (leb 14 ((c .tx .«tx_sp_cnt» + 1) % 256)) (λ _. cases P high (λ _. refl) (λ _. refl)) (λ _. refl)
 
--- what an Rx tick leaves of the mark, and of the position
-going-mark : (c : Core) (high : Bool) → goesOn (sampled (c .rx) high) ≡ true → rxTick c high .told .«rx_state» ≡ c .told .«rx_state»
-unfolding rxTick
-going-mark c high few = ap (λ (d : Core). d .told .«rx_state») (on-true few (withRx c (sampled (c .rx) high)) (finished c (sampled (c .rx) high)))
-
-ended-count : (c : Core) (high : Bool) → goesOn (sampled (c .rx) high) ≡ false → rxTick c high .rx .«rx_pos» ≡ min (sampled (c .rx) high .«rx_pos» + 1) 65535
-unfolding rxTick finished idled
-ended-count c high done = ap (λ (d : Core). d .rx .«rx_pos») (on-false done (withRx c (sampled (c .rx) high)) (finished c (sampled (c .rx) high)))
-
 -- ---- a tick
-filled-length : (bytes : List ℕ) (r : Rx) (high : Bool) → length (filled bytes r high) ≡ length bytes
-unfolding filled
-filled-length bytes r high = cases (λ (l : List ℕ). length l ≡ length bytes) (eighth r) (λ _. length-set bytes _ _) (λ _. refl)
-
 module _ (s : DaliBitbangPhy) (w : Whole s) (high : Bool) where
-  rx-whole : s .core .bus .«bus_state» ≡ bus.Rx → Whole (storedRx s (heardOf (s .core) high) high)
-  unfolding storedRx finishedRx heardOf machine.actOf In
+  rx-whole : s .core .bus .«bus_state» ≡ bus.Rx → Whole (rxTick s (heardOf (s .core) high) high)
+  unfolding rxTick wentOn notified finished idled heardOf In coreAfter
   rx-whole e =
       let c : Core = heardOf (s .core) high in
       let r : Rx = sampled (s .core .rx) high in
-      let g : Good (rxTick c high) = act-good bus.Rx (s .core) (s .«tx_hb») high e (w .core) in
+      let g : Good (rxCore c high) = act-good bus.Rx (s .core) (s .«tx_hb») high e (w .core) in
       let i : In bus.Rx (s .core .runs) (s .core .bus) (s .core .rx) (s .core .told) = subst (λ (x : BusState). In x (s .core .runs) (s .core .bus) (s .core .rx) (s .core .told)) e (w .core .state) in
-      let kept : length (filled (s .«rx_data») (s .core .rx) high) ≡ 64 = filled-length (s .«rx_data») (s .core .rx) high ∙ w .data-whole in
-      let ended : length (set (filled (s .«rx_data») (s .core .rx) high) (r .«rx_pos») 255) ≡ 64 = length-set (filled (s .«rx_data») (s .core .rx) high) (r .«rx_pos») 255 ∙ kept in
       cases Whole (goesOn r)
-      (λ few. record { core = g; loads = w .loads; data-whole = kept; samples-whole = w .samples-whole; counts = λ m. w .counts (sym (going-mark c high few) ∙ m) })
-      (λ done. record {
-        core = g;
-        loads = w .loads;
-        data-whole = ended;
-        samples-whole = ended;
-        counts = λ _. subst (λ (n : ℕ). (3 ≤ n) × (n ≤ 64)) (sym (ended-count c high done)) (whole (s .core) (w .core .any) i e high done);
-      })
+      (λ few. record { core = subst Good (on-true few (withRx c r) (finished c r)) g; loads = w .loads; counts = w .counts })
+      (λ done. record { core = subst Good (on-false done (withRx c r) (finished c r)) g; loads = w .loads; counts = λ _. whole (s .core) (w .core .any) i e high done })
 
   act-whole : (b : BusState) → s .core .bus .«bus_state» ≡ b → Whole (actOf b s (heardOf (s .core) high) high)
-  unfolding actOf isRx pick machine.actOf txTick heardOf
+  unfolding actOf coreAfter txTick heardOf
   act-whole bus.Idle e = with-core s _ w (act-good bus.Idle (s .core) (s .«tx_hb») high e (w .core)) (idle-mark (heardOf (s .core) high) high)
   act-whole bus.Rx e = rx-whole e
   act-whole bus.Tx e = with-core s _ w (act-good bus.Tx (s .core) (s .«tx_hb») high e (w .core)) (λ m. sym (step-mark _ (heardOf (s .core) high)) ∙ m)
@@ -134,16 +107,16 @@ module _ (s : DaliBitbangPhy) (w : Whole s) (high : Bool) where
 -- ---- the other calls
 pub fits : (n : ℕ) → lengthFits n ≡ true → n ≤ 54
 unfolding lengthFits
-fits n = cases (λ (t : Bool). t ≡ true → n ≤ 54) (eqb n 0) (λ _ e. absurd (false≢true e)) (λ _ e. leb-true n 54 e)
+fits n e = leb-true n 54 (parts (not (eqb n 0)) (leb n 54) e .1)
 
 module _ (s : DaliBitbangPhy) (w : Whole s) where
   start-whole : (allowed : Bool) (hb : HalfBitBuffer) (answer : Bool) → Whole (pick {A = Started} allowed (started s hb answer) (startedWith s Busy) .station)
-  unfolding started loadedWith loaded
+  unfolding started loadedWith loaded storeOf
   start-whole allowed hb answer =
       let P : Started → Type 0 = λ (x : Started). Whole (x .station) in
       cases P allowed
       (λ _. cases P (lengthFits (hb .length))
-      (λ ok. record { core = loaded-good (s .core) answer (w .core .any); loads = fits (hb .length) ok; data-whole = w .data-whole; samples-whole = w .samples-whole; counts = λ e. absurd (not-empty e) })
+      (λ ok. record { core = loaded-good (s .core) answer (w .core .any); loads = fits (hb .length) ok; counts = λ e. absurd (not-empty e) })
       (λ _. w))
       (λ _. w)
 
@@ -153,9 +126,9 @@ module _ (s : DaliBitbangPhy) (w : Whole s) where
       let P : Polled → Type 0 = λ (x : Polled). Whole (x .station) in
       cases P (s .core .told .«tx_yielded»)
       (λ _. with-core s _ w (telling-good (s .core) (w .core) _ _ _ (omega arith) (λ m. m) (λ e. absurd (false≢true e))) (λ m. m))
-      (λ _. cases P (eqb (s .core .told .«tx_collision») 0)
-      (λ _. cases P (isTx (s .core .bus .«bus_state»)) (λ _. w) (λ _. w))
-      (λ _. with-core s _ w (telling-good (s .core) (w .core) _ _ _ (omega arith) (λ m. m) (λ m. m)) (λ m. m)))
+      (λ _. cases P (not (eqb (s .core .told .«tx_collision») 0))
+      (λ _. with-core s _ w (telling-good (s .core) (w .core) _ _ _ (omega arith) (λ m. m) (λ m. m)) (λ m. m))
+      (λ _. cases P (isTx (s .core .bus .«bus_state»)) (λ _. w) (λ _. w)))
 
   idle-whole : Whole (tookIdle s .station)
   unfolding tookIdle
@@ -193,8 +166,6 @@ new-whole = record {
     state = record { receiving = refl; released = refl; busy = refl; debounce = omega arith; fell = λ _. refl; counted = omega arith };
   };
   loads = omega arith;
-  data-whole = refl;
-  samples-whole = refl;
   counts = λ e. absurd (not-empty e);
 }
 

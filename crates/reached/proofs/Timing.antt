@@ -3,7 +3,7 @@ use Prim.Native.Nat.{ℕ, suc, _+_, _-_, _/_, _%_, _≤_, _<_, min}
 use native.Mathlib.Omega.{arith}
 use native.Mathlib.Decide.{decLt}
 use native.Mathlib.Nat.{add-zero, zero-add}
-use mathlib.Core.Bool.{Bool, true, false}
+use mathlib.Core.Bool.{Bool, true, false, not}
 use mathlib.Core.List.{List, [], _∷_}
 use mathlib.Core.Path.{_≡_, refl, sym, _∙_, ap, subst}
 use lib.Dec.{eqb, leb}
@@ -12,24 +12,25 @@ use Rattle.laws.specs.Bit.{bit}
 use Rattle.laws.specs.Pick.{pick}
 use Rattle.laws.proofs.Picked.{on-true, on-false}
 use Rattle.halfbits.specs.declared.HalfBitBuffer.{HalfBitBuffer}
-use Rattle.machine.specs.declared.TxStep.{TxStep}
-use Rattle.machine.specs.declared.TxStep.the-variants.{Arm, Yield, End, Clash, Hold, Drive}
+use Rattle.laws.proofs.Joined.{and-on, and-off, joins}
+use Rattle.machine.proofs.Store.{releases-loaded}
 use Rattle.machine.specs.Runs.{heardOf}
 use Rattle.machine.specs.BecomingIdle.{idled}
-use Rattle.machine.specs.Idle.{idleTick}
-use Rattle.machine.specs.Sending.{clashOf, txStep, armed, yielded, clashed, held, driven, stepped}
+use Rattle.machine.specs.Idle.{idleTick, silent, fell}
+use Rattle.machine.specs.Sending.{Step, Arm, Yield, End, Clash, Hold, Drive, clashOf, txStep, armed, yielded, clashed, held, driven, stepped, storeOf, armedStep, releasesAt}
 use Rattle.machine.specs.Starting.{loaded}
 use Rattle.fsm.specs.declared.DaliBitbangPhy.{DaliBitbangPhy}
 use Rattle.fsm.specs.Station.{withCore}
 use Rattle.fsm.specs.Ticking.{tickOf}
-use Rattle.fsm.specs.Starting.{hears, loadedWith}
+use Rattle.fsm.specs.Starting.{loadedWith}
+use Rattle.machine.specs.States.{hears}
 use Rattle.reached.specs.Calls.{Call, tick, start-tx, start-answer, poll, take-idle, take-rx, acknowledge, policy, after, afterAll, Reached}
 use Rattle.reached.specs.Ticks.{drives, IsSending, IsBreaking, StaysSending, levelIn, levelsIn, ticksIn}
 use Rattle.reached.specs.OverTicks.{begun, toSend, halfBitLevel, IsClash, OnTime, Starts, a-frame, an-answer, SendsOnTime}
 use Rattle.reached.proofs.Stations.{fits}
 use Rattle.reached.proofs.Between.{Same, isTick, busy-same}
 use Rattle.reached.proofs.Clashes.{Told, clash-told, told-clash, is-high, breaking-clash}
-use Rattle.reached.proofs.Arming.{storeOf, quiet, idle-hears, tx-taken, answer-taken}
+use Rattle.reached.proofs.Arming.{quiet, idle-hears, tx-taken, answer-taken}
 use Rattle.reached.proofs.ByState.{tick-by, sending-not-breaking, idle-not-sending, idle-not-breaking}
 
 record Timed (hb : HalfBitBuffer) (n : ℕ) (t : DaliBitbangPhy) : Type 0 where
@@ -77,7 +78,7 @@ timed-kept hb n t u same h =
 -- ---- a tick
 -- steps that leave Tx
 yield-leaves : (t : DaliBitbangPhy) (b : Bool) → IsSending (withCore t (stepped Yield (heardOf (t .core) b))) → ⊥
-unfolding stepped yielded idled idleTick pick
+unfolding stepped yielded idled idleTick silent fell pick
 yield-leaves t b e = idle-not-sending e
 
 end-leaves : (t : DaliBitbangPhy) (b : Bool) → IsSending (withCore t (stepped End (heardOf (t .core) b))) → ⊥
@@ -89,7 +90,7 @@ unfolding stepped clashed
 clash-leaves t b e = sending-not-breaking (sym e)
 
 module _ (hb : HalfBitBuffer) (short : hb .length ≤ 54) (n : ℕ) (t : DaliBitbangPhy) (h : Timed hb n t) (b : Bool) where
-  by : (x : TxStep) → txStep (t .core .tx) (t .core .«collision_policy») (t .«tx_hb») b ≡ x → tickOf t b ≡ withCore t (stepped x (heardOf (t .core) b))
+  by : (x : Step) → txStep (t .core .tx) (t .core .«collision_policy») (t .«tx_hb») b ≡ x → tickOf t b ≡ withCore t (stepped x (heardOf (t .core) b))
   by = tick-by t b (h .sending)
 
   arms : n < 3 → txStep (t .core .tx) (t .core .«collision_policy») (t .«tx_hb») b ≡ Arm → Timed hb (suc n) (tickOf t b)
@@ -124,7 +125,7 @@ module _ (hb : HalfBitBuffer) (short : hb .length ≤ 54) (n : ℕ) (t : DaliBit
       })
 
   drives-next : 3 ≤ n → n % 4 ≡ 3 → n / 4 < hb .length
-      → txStep (t .core .tx) (t .core .«collision_policy») (t .«tx_hb») b ≡ Drive (halfBitLevel (t .«tx_hb» .«tx_hb_data») (begun t)) → Timed hb (suc n) (tickOf t b)
+      → txStep (t .core .tx) (t .core .«collision_policy») (t .«tx_hb») b ≡ Drive (releasesAt (t .«tx_hb») (begun t)) → Timed hb (suc n) (tickOf t b)
   unfolding stepped driven heardOf
   drives-next many last within e =
       let next : suc n / 4 ≡ suc (n / 4) = omega arith in
@@ -139,37 +140,38 @@ module _ (hb : HalfBitBuffer) (short : hb .length ≤ 54) (n : ℕ) (t : DaliBit
         early = λ few. absurd (let no : ⊥ = omega arith in no);
         left = λ _. omega (arith, last);
         watch = λ _. refl;
-        level = λ _. rw (h .store, c, place);
+        level = λ _. rw (h .store, c, place) (releases-loaded hb (n / 4) (omega arith));
       })
 
   -- ---- armed
   module _ (few : n < 3) where
-    rule-armed : txStep (t .core .tx) (t .core .«collision_policy») (t .«tx_hb») b ≡ pick b Arm (pick (t .core .tx .«tx_answer») Arm Yield)
+    rule-armed : txStep (t .core .tx) (t .core .«collision_policy») (t .«tx_hb») b ≡ armedStep (t .core .tx) b
     unfolding txStep
     rule-armed =
         let some : t .core .tx .«tx_armed» ≡ 0 → ⊥ = λ e. omega (arith, h .waits, e) in
-        simp (on-false (ne-eqb _ _ some))
+        simp (on-true (ap not (ne-eqb _ _ some)))
 
     on-armed : IsSending (tickOf t b) → Timed hb (suc n) (tickOf t b)
     on-armed on = go b refl (t .core .tx .«tx_answer») refl
       where
         go : (x : Bool) → b ≡ x → (y : Bool) → t .core .tx .«tx_answer» ≡ y → Timed hb (suc n) (tickOf t b)
-        go true e y f = arms few (rule-armed ∙ on-true e Arm _)
-        go false e true f = arms few (rule-armed ∙ on-false e Arm _ ∙ on-true f Arm Yield)
-        go false e false f = absurd (yield-leaves t b (subst IsSending (by Yield (rule-armed ∙ on-false e Arm _ ∙ on-false f Arm Yield)) on))
+        go true e y f = arms few (rule-armed ∙ on-false (and-off (ap not e) _) Yield Arm)
+        go false e true f = arms few (rule-armed ∙ on-false (and-on (ap not e) _ ∙ ap not f) Yield Arm)
+        go false e false f = absurd (yield-leaves t b (subst IsSending (by Yield (rule-armed ∙ on-true (joins (ap not e) (ap not f)) Yield Arm)) on))
 
   -- ---- sending
   module _ (many : 3 ≤ n) where
     rule : txStep (t .core .tx) (t .core .«collision_policy») (t .«tx_hb») b
         ≡ pick (leb (toSend t) (begun t)) End
         (pick (clashOf (t .core .tx) (t .core .«collision_policy») (toSend t) b) Clash
-        (pick (eqb (t .core .tx .«tx_sp_cnt») 0) (pick (leb 7 (begun t / 8)) End (Drive (halfBitLevel (t .«tx_hb» .«tx_hb_data») (begun t)))) Hold))
+        (pick (not (eqb (t .core .tx .«tx_sp_cnt») 0)) Hold (pick (leb 56 (begun t)) End (Drive (releasesAt (t .«tx_hb») (begun t))))))
     unfolding txStep
     rule =
         let none : t .core .tx .«tx_armed» ≡ 0 = omega (arith, h .waits) in
-        simp (on-true (eq-eqb _ _ none))
+        simp (on-false (ap not (eq-eqb _ _ none)))
 
     len : toSend t ≡ hb .length
+    unfolding storeOf
     len = rw (h .store)
 
     module _ (within : leb (toSend t) (begun t) ≡ false) where
@@ -187,11 +189,11 @@ module _ (hb : HalfBitBuffer) (short : hb .length ≤ 54) (n : ℕ) (t : DaliBit
           go (yes more) =
               let four : 4 ≤ n = omega (arith, more) in
               let some : t .core .tx .«tx_sp_cnt» ≡ 0 → ⊥ = λ e. omega (arith, h .left four, e, more) in
-              holds four more (rule ∙ on-false within _ _ ∙ on-false calm _ _ ∙ on-false (ne-eqb _ _ some) _ _)
+              holds four more (rule ∙ on-false within _ _ ∙ on-false calm _ _ ∙ on-true (ap not (ne-eqb _ _ some)) _ _)
           go (no last) =
               let three : n % 4 ≡ 3 = omega (arith, last) in
-              let at : begun t / 8 < 7 = omega (arith, h .count, small) in
-              drives-next many three small (rule ∙ on-false within _ _ ∙ on-false calm _ _ ∙ on-true (eq-eqb _ _ (none-left three (decLt n 4))) _ _ ∙ on-false (lt-leb _ _ at) _ _)
+              let at : begun t < 56 = omega (arith, h .count, small) in
+              drives-next many three small (rule ∙ on-false within _ _ ∙ on-false calm _ _ ∙ on-false (ap not (eq-eqb _ _ (none-left three (decLt n 4)))) _ _ ∙ on-false (lt-leb _ _ at) _ _)
 
     on-sending : IsSending (tickOf t b) → Timed hb (suc n) (tickOf t b)
     on-sending on = go (leb (toSend t) (begun t)) refl (clashOf (t .core .tx) (t .core .«collision_policy») (toSend t) b) refl
@@ -210,7 +212,7 @@ module _ (hb : HalfBitBuffer) (short : hb .length ≤ 54) (n : ℕ) (t : DaliBit
 
   -- ---- which ticks are a clash
   clash : 4 ≤ n → n / 4 < hb .length → IsClash (n % 4 + 2) t b → IsBreaking (tickOf t b)
-  unfolding stepped clashed
+  unfolding stepped clashed storeOf
   clash many small k =
       let within : begun t < toSend t = rw (h .store) (omega (arith, h .count)) in
       let told : Told (t .core .tx) (t .core .«collision_policy») (toSend t) b

@@ -8,7 +8,7 @@ use mathlib.Core.Path.{_≡_, refl}
 use lib.ListN.{replicate}
 use Rattle.fsm.specs.declared.DaliBitbangPhy.{DaliBitbangPhy}
 use Rattle.fsm.specs.Ticking.{tickOf}
-use Rattle.fsm.specs.Starting.{hears}
+use Rattle.machine.specs.States.{hears}
 use Rattle.reached.specs.Calls.{Call, tick, start-tx, start-answer, poll, take-idle, take-rx, acknowledge, policy, after, afterAll, Reached, called}
 use Rattle.reached.specs.Ticks.{levelIn, levelsIn, ticksIn}
 use Rattle.reached.proofs.Between.{Same, isTick, busy-same}

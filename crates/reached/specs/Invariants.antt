@@ -2,13 +2,11 @@
 use Prim.Native.Nat.{_≤_, _<_}
 use mathlib.Core.Bool.{Bool, true, false, not}
 use mathlib.Core.Path.{_≡_}
-use lib.ListN.{length}
 use Rattle.machine.specs.declared.BusState.the-variants as bus
 use Rattle.machine.specs.declared.RxState.{RxState}
 use Rattle.machine.specs.declared.RxState.the-variants.{Empty, Receiving, Completed}
 use Rattle.fsm.specs.declared.DaliBitbangPhy.{DaliBitbangPhy}
-use Rattle.fsm.specs.Ticking.{isRx}
-use Rattle.fsm.specs.Starting.{hears}
+use Rattle.machine.specs.States.{isRx, hears}
 use Rattle.reached.specs.Calls.{Reached}
 
 unfoldable pub isReceiving : RxState → Bool
@@ -41,9 +39,7 @@ pub record Holds (s : DaliBitbangPhy) : Type 0 where
   pub either : 0 < s .core .told .«tx_collision» → s .core .told .«tx_yielded» ≡ false
   -- no length over 54 is loaded
   pub loads : s .«tx_hb» .«tx_hb_len» ≤ 54
-  -- both captures have 64 bytes, and one that can be taken counts 3 to 64 of them
-  pub data-whole : length (s .«rx_data») ≡ 64
-  pub samples-whole : length (s .«last_rx» .samples) ≡ 64
+  -- a capture that can be taken counts 3 to 64 bytes
   pub count-from : s .core .told .«rx_state» ≡ Completed → 3 ≤ s .«last_rx» .«sample_count»
   pub count-to : s .core .told .«rx_state» ≡ Completed → s .«last_rx» .«sample_count» ≤ 64
 

@@ -5,6 +5,7 @@ use mathlib.Core.Bool.{Bool, not}
 use mathlib.Core.List.{List}
 use mathlib.Core.Logic.{_⊎_}
 use mathlib.Core.Path.{_≡_}
+use lib.Dec.{eqb}
 use lib.ListN.{length, getD, replicate}
 use Rattle.laws.specs.Bit.{bit}
 use Rattle.laws.specs.Packed.{packed}
@@ -15,7 +16,8 @@ use Rattle.halfbits.specs.Wave.{high, low}
 use Rattle.machine.specs.declared.CollisionPolicy.{CollisionPolicy}
 use Rattle.machine.specs.declared.CollisionPolicy.the-variants.{Auto, Off, On}
 use Rattle.machine.specs.declared.RxState.the-variants.{Completed}
-use Rattle.machine.specs.Sending.{releasesAt}
+use Rattle.capture.specs.Samples.{bytesOf}
+use Rattle.machine.specs.Sending.{halfBitIn, storeOf, releasesAt}
 use Rattle.fsm.specs.declared.DaliBitbangPhy.{DaliBitbangPhy}
 use Rattle.fsm.specs.declared.StartAnswer.the-variants as start
 use Rattle.fsm.specs.declared.TxPollResult.the-variants.{Ok, Collision, Yielded}
@@ -64,6 +66,13 @@ abbrev pub IdleTicks : Type 0
 IdleTicks = (s : DaliBitbangPhy) → Reached s → IsIdle s → InIdle s
 
 -- ---- Rx
+-- the bytes of the capture that is being made, and of the last event
+abbrev pub captured : DaliBitbangPhy → List ℕ
+captured s = bytesOf (s .«rx_data»)
+
+abbrev pub handed : DaliBitbangPhy → List ℕ
+handed s = bytesOf (s .«last_rx» .samples)
+
 -- eight levels a byte, the first of them on top
 abbrev pub byteOf : (ℕ → Bool) → ℕ → ℕ
 byteOf level i = packed 2 8 (λ j. bit (level (8 * i + j)))
@@ -89,7 +98,7 @@ pub record Hears (s : DaliBitbangPhy) (level : ℕ → Bool) (n : ℕ) (calls : 
 -- Until then it is in Rx, and the store holds every whole byte of the levels that were heard; s is the station before the capture.
 pub record Capturing (s : DaliBitbangPhy) (level : ℕ → Bool) (heard : ℕ) (t : DaliBitbangPhy) : Type 0 where
   pub capturing : IsCapturing t
-  pub store : Store (s .«rx_data») level (heard / 8) (t .«rx_data»)
+  pub store : Store (captured s) level (heard / 8) (captured t)
 
 abbrev pub Captures : Type 0
 Captures =
@@ -101,13 +110,13 @@ Captures =
 pub record Captured (s : DaliBitbangPhy) (level : ℕ → Bool) (heard : ℕ) (t : DaliBitbangPhy) : Type 0 where
   pub idle : NoLow t
   pub ready : t .core .told .«rx_state» ≡ Completed
-  pub whole : length (t .«last_rx» .samples) ≡ 64
+  pub whole : length (handed t) ≡ 64
   pub count : t .«last_rx» .«sample_count» ≡ min (heard / 8) 63 + 1
-  pub first : (i : ℕ) → i < heard / 8 → i < 63 → getD (t .«last_rx» .samples) i 0 ≡ byteOf level i
-  pub end : getD (t .«last_rx» .samples) (min (heard / 8) 63) 0 ≡ 255
-  pub rest : (i : ℕ) → heard / 8 < i → getD (t .«last_rx» .samples) i 0 ≡ getD (s .«rx_data») i 0
+  pub first : (i : ℕ) → i < heard / 8 → i < 63 → getD (handed t) i 0 ≡ byteOf level i
+  pub end : getD (handed t) (min (heard / 8) 63) 0 ≡ 255
+  pub rest : (i : ℕ) → heard / 8 < i → getD (handed t) i 0 ≡ getD (captured s) i 0
   pub silence : t .«last_rx» .«pre_idle_ticks» ≡ min (idleCount s) 255
-  pub stays : t .«rx_data» ≡ t .«last_rx» .samples
+  pub stays : captured t ≡ handed t
 
 abbrev pub CaptureEnds : Type 0
 CaptureEnds =
@@ -127,14 +136,14 @@ pub record Begins (s : DaliBitbangPhy) (level : Bool) : Type 0 where
   pub sending : IsSending s
   pub one-more : begun (tickOf s level) ≡ begun s + 1
 
--- one bit of a store a half-bit, top bit first, where 0 leaves the line high
+-- one bit of a buffer a half-bit, top bit first, where 0 leaves the line high
 abbrev pub halfBitLevel : List ℕ → ℕ → Bool
-halfBitLevel store k = releasesAt (getD store (k / 8) 0) k
+halfBitLevel store k = eqb (halfBitIn store k) 0
 
 -- The first tick of a half-bit drives it.
 pub record Drives (s : DaliBitbangPhy) (level : Bool) : Type 0 where
   pub sending : IsSending (tickOf s level)
-  pub driven : drives (tickOf s level) ≡ halfBitLevel (s .«tx_hb» .«tx_hb_data») (begun s)
+  pub driven : drives (tickOf s level) ≡ releasesAt (s .«tx_hb») (begun s)
 
 abbrev pub HalfBitsDriven : Type 0
 HalfBitsDriven = (s : DaliBitbangPhy) (level : Bool) → Begins s level → Drives s level
@@ -149,7 +158,7 @@ pub record Armed (t : DaliBitbangPhy) : Type 0 where
 pub record ArmedFor (hb : HalfBitBuffer) (n : ℕ) (t : DaliBitbangPhy) : Type 0 where
   pub armed : n ≤ 3 → Armed t
   pub first : n ≡ 3 → (level : Bool) → Begins t level
-  pub store : n ≤ 3 → t .«tx_hb» ≡ record { «tx_hb_data» = hb .«data»; «tx_hb_len» = hb .length }
+  pub store : n ≤ 3 → t .«tx_hb» ≡ storeOf hb
 
 -- The frame is given up, and the same tick is Idle's first low.
 pub record Yields (t : DaliBitbangPhy) : Type 0 where

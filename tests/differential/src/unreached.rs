@@ -202,6 +202,16 @@ mod port {
         include!(concat!(env!("PORT"), "/event.rs"));
     }
 
+    pub mod capture {
+        use super::window;
+        include!(concat!(env!("PORT"), "/capture.rs"));
+
+        pub fn samples(bytes: [u8; 64]) -> Samples {
+            let written = bytes.iter().enumerate();
+            written.fold(Samples::new(), |samples, (at, byte)| samples.with_byte(at, *byte))
+        }
+    }
+
     pub mod halfbits {
         include!(concat!(env!("PORT"), "/halfbits.rs"));
     }
@@ -212,10 +222,11 @@ mod port {
     }
 
     pub mod fsm {
-        use super::{event, halfbits, machine};
+        use super::{capture, event, halfbits, machine};
         include!(concat!(env!("PORT"), "/fsm.rs"));
 
         use crate::State;
+        use capture::samples;
 
         const STATES: [BusState; 4] = [
             BusState::Idle,
@@ -240,10 +251,12 @@ mod port {
                     s.core.collision_policy = POLICIES[state.policy];
                     s.core.bus.driven_high = state.driven_high;
                     s.core.bus.tx_busy = state.tx_busy;
-                    s.tx_hb.tx_hb_data = state.tx_hb_data;
-                    s.tx_hb.tx_hb_len = state.tx_hb_len;
-                    s.rx_data = state.rx_data;
-                    s.last_rx.samples = state.samples;
+                    s.tx_hb = TxHb::of(HalfBitBuffer {
+                        data: state.tx_hb_data,
+                        length: state.tx_hb_len,
+                    });
+                    s.rx_data = samples(state.rx_data);
+                    s.last_rx.samples = samples(state.samples);
                     s.last_rx.sample_count = state.sample_count;
                     s.last_rx.pre_idle_ticks = state.pre_idle_ticks;
                     s
@@ -257,10 +270,10 @@ mod port {
                         policy: POLICIES.iter().position(|x| *x as u8 == s.core.collision_policy as u8).unwrap(),
                         driven_high: s.core.bus.driven_high,
                         tx_busy: s.core.bus.tx_busy,
-                        tx_hb_data: s.tx_hb.tx_hb_data,
-                        tx_hb_len: s.tx_hb.tx_hb_len,
-                        rx_data: s.rx_data,
-                        samples: s.last_rx.samples,
+                        tx_hb_data: std::array::from_fn(|at| s.tx_hb.tx_hb_bits.to_be_bytes()[at]),
+                        tx_hb_len: s.tx_hb.tx_hb_len as u8,
+                        rx_data: s.rx_data.bytes(),
+                        samples: s.last_rx.samples.bytes(),
                         sample_count: s.last_rx.sample_count,
                         pre_idle_ticks: s.last_rx.pre_idle_ticks,
                     }

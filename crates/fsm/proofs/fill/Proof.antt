@@ -1,7 +1,4 @@
 -- `fsm::fill` meets its contract. Assumes nothing.
-use Rattle.laws.proofs.Picked.{on-false, on-true}
-use borrow.Author.Tests.{eq-eqb, ne-eqb}
-use Rattle.fsm.specs.Receiving.{filled}
 use borrow.Author.Needs.{needs}
 use Rattle.fsm.proofs.fill.Statement.{statement}
 use Rattle.fsm.proofs.fill.Tie as tie
@@ -16,13 +13,7 @@ with-byte-requires : tie.Need-with-byte-requires
 with-byte-requires c κs = search needs
 
 returns : tie.Need-returns
-unfolding filled
-returns c = simp (← c .with-byte .ensures, ← c .before .shifted .ensures, ← c .before .before .slot .ensures, on-true (eq-eqb _ _ (c .before .before .before .if1 .taken)))
-
-returns-2 : tie.Need-returns-2
-unfolding filled
-returns-2 c = simp (on-false (ne-eqb _ _ (c .if1 .left)))
+returns c = simp (← c .with-byte .ensures, ← c .before .shifted .ensures, ← c .before .before .slot .ensures)
 
 pub fill-spec : {M : Type 1} → statement M
-fill-spec =
-    tie.close (tie.spec slot-requires shifted-requires with-byte-requires returns returns-2)
+fill-spec = tie.close (tie.spec slot-requires shifted-requires with-byte-requires returns)

@@ -1,5 +1,7 @@
 -- `fsm::length_fits` meets its contract. Assumes nothing.
-use Rattle.laws.proofs.Picked.{on-false, on-true}
+use mathlib.Core.Bool.{not}
+use mathlib.Core.Path.{ap}
+use Rattle.laws.proofs.Joined.{and-on}
 use borrow.Author.Tests.{eq-eqb, ne-eqb}
 use Rattle.fsm.specs.Starting.{lengthFits}
 use Rattle.fsm.proofs.length_fits.Statement.{statement}
@@ -7,11 +9,11 @@ use Rattle.fsm.proofs.length_fits.Tie as tie
 
 returns : tie.Need-returns
 unfolding lengthFits
-returns c = simp (on-true (eq-eqb _ _ (c .if1 .taken)))
+returns c = simp (and-on (ap not (ne-eqb _ _ (c .if1 .taken))))
 
 returns-2 : tie.Need-returns-2
 unfolding lengthFits
-returns-2 c = simp (on-false (ne-eqb _ _ (c .if1 .left)))
+returns-2 c = simp (ap not (eq-eqb _ _ (c .if1 .left)))
 
 pub length-fits-spec : {M : Type 1} → statement M
 length-fits-spec = tie.close (tie.spec returns returns-2)

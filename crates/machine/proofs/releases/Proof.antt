@@ -8,6 +8,9 @@ use Rattle.machine.proofs.releases.Tie as tie
 sub-result : tie.Need-sub-result
 sub-result c = search needs
 
+cast-result : tie.Need-cast-result
+cast-result c = search needs
+
 shr-result : tie.Need-shr-result
 shr-result c = search needs
 
@@ -16,4 +19,4 @@ unfolding releasesAt
 returns c = refl
 
 pub releases-spec : {M : Type 1} → statement M
-releases-spec = tie.close (tie.spec sub-result shr-result returns)
+releases-spec = tie.close (tie.spec sub-result cast-result shr-result returns)

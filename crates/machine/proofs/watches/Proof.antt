@@ -7,6 +7,9 @@ use Rattle.machine.proofs.watches.Tie as tie
 enum-told : tie.Need-enum-told
 enum-told c = search needs
 
+cast-result : tie.Need-cast-result
+cast-result c = search needs
+
 enum-told-2 : tie.Need-enum-told-2
 enum-told-2 c = search needs
 
@@ -26,4 +29,5 @@ unfolding watchesOf
 returns-3 c = simp (c .enum-told3 .given .1)
 
 pub watches-spec : {M : Type 1} → statement M
-watches-spec = tie.close (tie.spec enum-told enum-told-2 enum-told-3 returns returns-2 returns-3)
+watches-spec =
+    tie.close (tie.spec enum-told cast-result enum-told-2 enum-told-3 returns returns-2 returns-3)

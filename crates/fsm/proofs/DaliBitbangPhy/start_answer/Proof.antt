@@ -1,7 +1,7 @@
 -- `fsm::DaliBitbangPhy::start_answer` meets its contract. Assumes nothing.
+use Rattle.fsm.proofs.Numbers.{answer-told}
 use Rattle.laws.proofs.Picked.{on-false, on-true}
 use Rattle.fsm.specs.Starting.{startAnswer}
-use Rattle.fsm.proofs.Numbers.{answer-told}
 use borrow.Author.Needs.{needs}
 use Rattle.fsm.proofs.DaliBitbangPhy.start_answer.Statement.{statement}
 use Rattle.fsm.proofs.DaliBitbangPhy.start_answer.Tie as tie

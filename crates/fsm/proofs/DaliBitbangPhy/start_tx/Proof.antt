@@ -1,7 +1,7 @@
 -- `fsm::DaliBitbangPhy::start_tx` meets its contract. Assumes nothing.
+use Rattle.fsm.proofs.Numbers.{tx-told}
 use Rattle.laws.proofs.Picked.{on-false, on-true}
 use Rattle.fsm.specs.Starting.{startTx}
-use Rattle.fsm.proofs.Numbers.{tx-told}
 use borrow.Author.Needs.{needs}
 use Rattle.fsm.proofs.DaliBitbangPhy.start_tx.Statement.{statement}
 use Rattle.fsm.proofs.DaliBitbangPhy.start_tx.Tie as tie

@@ -1,30 +1,39 @@
 -- `fsm::DaliBitbangPhy::tick_rx` meets its contract. Assumes nothing.
-use Rattle.laws.proofs.Picked.{on-false, on-true}
-use borrow.Author.Tests.{le-ltb, lt-ltb}
-use Rattle.fsm.specs.Receiving.{storedRx}
-use Rattle.machine.specs.Sampling.{rxTick}
+use Rattle.fsm.proofs.Ticks.{of-eighth, of-other}
+use borrow.Author.Tests.{eq-eqb, ne-eqb}
 use borrow.Author.Needs.{needs}
 use Rattle.fsm.proofs.DaliBitbangPhy.tick_rx.Statement.{statement}
 use Rattle.fsm.proofs.DaliBitbangPhy.tick_rx.Tie as tie
 
-with-sample-requires : tie.Need-with-sample-requires
-with-sample-requires c κs = search needs
+with-eighth-requires : tie.Need-with-eighth-requires
+with-eighth-requires c κs = search needs
 
 fill-requires : tie.Need-fill-requires
 fill-requires c κs = search needs
 
-returns : tie.Need-returns
-unfolding storedRx rxTick
-returns c = simp (on-true (lt-ltb _ _ (c .before .before .if1 .taken)), ← c .before .before .before .before .fill .ensures, ← c .before .before .before .before .before .with-sample .ensures)
+go-on-requires : tie.Need-go-on-requires
+go-on-requires c κs = search needs
 
-finish-rx-and-notify-requires : tie.Need-finish-rx-and-notify-requires
-finish-rx-and-notify-requires c κs = search needs
+returns : tie.Need-returns
+returns c = of-eighth _ _ _ _ _ _ (eq-eqb _ _ (c .before .before .before .if1 .taken)) (c .before .before .with-eighth .ensures) (c .before .fill .ensures) (c .go-on .ensures)
+
+with-sample-requires : tie.Need-with-sample-requires
+with-sample-requires c κs = search needs
+
+go-on-requires-2 : tie.Need-go-on-requires-2
+go-on-requires-2 c κs = search needs
 
 returns-2 : tie.Need-returns-2
-unfolding storedRx rxTick
-returns-2 c = simp (← c .finish-rx-and-notify .ensures, on-false (le-ltb _ _ (c .before .if1 .left)), ← c .before .before .before .fill .ensures, ← c .before .before .before .before .with-sample .ensures)
+returns-2 c = of-other _ _ _ _ _ (ne-eqb _ _ (c .before .before .if1 .left)) (c .before .with-sample .ensures) (c .go-on2 .ensures)
 
 pub tick-rx-spec : {M : Type 1} → statement M
 tick-rx-spec =
     tie.close
-    (tie.spec with-sample-requires fill-requires returns finish-rx-and-notify-requires returns-2)
+    (tie.spec
+    with-eighth-requires
+    fill-requires
+    go-on-requires
+    returns
+    with-sample-requires
+    go-on-requires-2
+    returns-2)

@@ -7,18 +7,18 @@ use Rattle.machine.proofs.Core.drive_half_bit.Tie as tie
 wrapping-inc8-requires : tie.Need-wrapping-inc8-requires
 wrapping-inc8-requires c κs = search needs
 
-cast-tx : tie.Need-cast-tx
-cast-tx c = search needs
+cast-t10 : tie.Need-cast-t10
+cast-t10 c = search needs
 
-sub-tx : tie.Need-sub-tx
-sub-tx c = search needs
+sub-t11 : tie.Need-sub-t11
+sub-t11 c = search needs
 
-cast-tx-2 : tie.Need-cast-tx-2
-cast-tx-2 c = search needs
+cast-t12 : tie.Need-cast-t12
+cast-t12 c = search needs
 
 returns : tie.Need-returns
 unfolding driven
 returns c = simp (← c .wrapping-inc8 .ensures)
 
 pub drive-half-bit-spec : {M : Type 1} → statement M
-drive-half-bit-spec = tie.close (tie.spec wrapping-inc8-requires cast-tx sub-tx cast-tx-2 returns)
+drive-half-bit-spec = tie.close (tie.spec wrapping-inc8-requires cast-t10 sub-t11 cast-t12 returns)

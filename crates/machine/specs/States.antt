@@ -1,0 +1,29 @@
+-- Questions about a state, which the calls and the tick ask. Assumes nothing.
+use mathlib.Core.Bool.{Bool, true, false}
+use Rattle.machine.specs.declared.BusState.{BusState}
+use Rattle.machine.specs.declared.BusState.the-variants.{Idle, Rx, Tx, CollisionTx}
+
+unfoldable pub isIdle : BusState → Bool
+isIdle Idle = true
+isIdle Rx = false
+isIdle Tx = false
+isIdle CollisionTx = false
+
+-- Idle or Rx: the station sends nothing
+unfoldable pub hears : BusState → Bool
+hears Idle = true
+hears Rx = true
+hears Tx = false
+hears CollisionTx = false
+
+unfoldable pub isTx : BusState → Bool
+isTx Idle = false
+isTx Rx = false
+isTx Tx = true
+isTx CollisionTx = false
+
+unfoldable pub isRx : BusState → Bool
+isRx Idle = false
+isRx Rx = true
+isRx Tx = false
+isRx CollisionTx = false
