@@ -1,6 +1,6 @@
 //! Times the proved station's tick beside the Rust's on the same levels, in one run, and prints ratios. There are two forms:
 //!
-//! - a call at a time, as firmware makes it: `host::tick` on a station lent for change, beside the Rust's `tick` on `&mut self`. Each tick is one
+//! - a call at a time, as firmware makes it: `in_place::tick` on a station lent for change, beside the Rust's `tick` on `&mut self`. Each tick is one
 //!   call through a pointer that the compiler can't look behind, in one loop that both sides share;
 //! - in a loop: `timed_ticks`, which takes the station by value and back at each tick, beside the same loop over the Rust's. Each loop stands behind
 //!   one such call.

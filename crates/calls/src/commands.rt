@@ -170,10 +170,10 @@ fn policy_of(place: u8) -> fsm::CollisionPolicy {
     }
 }
 
-// A tick has two forms: by value, and `host::tick`, which firmware calls. A `tick` line takes the second, and a `ticks` line both by turns: their
-// answers are the same, and the comparison with the Rust then shows that each of them is right.
+// A tick has three forms: by value, in place, which firmware calls, and copied out and back. A `tick` line takes the second, and a `ticks` line all by
+// turns: their answers are the same, and the comparison with the Rust then shows that each of them is right.
 fn tick(kept: Kept, high: bool) -> Answer {
-    let ticked = host::tick_lent(kept.station, high);
+    let ticked = host::tick_lent(kept.station, high, true);
     let next = kept.with_station(ticked.station);
     next.says(Reply::Driven(ticked.driven_high))
 }
@@ -192,10 +192,10 @@ fn ticks(kept: Kept, ops: Operands) -> Answer {
         let at = i / 8 % BYTES_ROOM;
         let place = 7 - i % 8;
         let high = (levels[at] >> place) % 2 == 1;
-        let ticked = if i % 2 == 1 {
-            host::tick_lent(station, high)
-        } else {
+        let ticked = if i % 3 == 0 {
             station.tick(high)
+        } else {
+            host::tick_lent(station, high, i % 3 == 1)
         };
         driven[at] = driven[at] | (ticked.driven_high as u8) << place;
         station = ticked.station;
@@ -291,11 +291,23 @@ fn encode(kept: Kept, ops: Operands) -> Answer {
     }
 }
 
-// The buffer that is lent has just the bytes of HEX.
 fn encodebuf(kept: Kept, ops: Operands) -> Answer {
+    let written = encode_lent(ops);
+    let answer = written.answer;
+    let bytes = written.bytes;
+    kept.tells(Reply::Encoded(answer), bytes, ops.len)
+}
+
+struct Written {
+    answer: halfbits::EncodeAnswer,
+    bytes: Bytes,
+}
+
+// The buffer that is lent has just the bytes of HEX. No station is at hand here: what is known of one's many fields would be searched first.
+fn encode_lent(ops: Operands) -> Written {
     let mut bytes = ops.bytes;
     let answer = encode_first(ops, &mut bytes);
-    kept.tells(Reply::Encoded(answer), bytes, ops.len)
+    Written { answer, bytes }
 }
 
 fn encode_first(ops: Operands, buffer: &mut [u8]) -> halfbits::EncodeAnswer {

@@ -1,4 +1,5 @@
-// The thin form of the tick, for a host that keeps its station in one place and ticks it from an interrupt.
+// The thin form of the tick, for a host that keeps its station in one place and ticks it from an interrupt, as document 01 has it. `in_place` has the
+// form that copies no more than it changes; both promise the same.
 ghost use mathlib.Core.Path.{_≡_};
 ghost use Rattle.fsm.specs.Ticking.{ticked};
 use fsm::DaliBitbangPhy;
@@ -14,11 +15,15 @@ pub fn tick(station: &mut DaliBitbangPhy, bus_is_high: bool) -> bool
     next.driven_high
 }
 
-// `tick` for whoever holds a station by value: it is lent to `tick`, and handed back as that leaves it.
-pub fn tick_lent(mut station: DaliBitbangPhy, bus_is_high: bool) -> Ticked
+// Either form of the lent tick, in place or copied, for whoever holds a station by value: it is lent, and handed back as the tick leaves it.
+pub fn tick_lent(mut station: DaliBitbangPhy, bus_is_high: bool, in_place: bool) -> Ticked
     ensures { λ r. ⌜ r ≡ ticked station «bus_is_high» ⌝ }
 {
-    let driven_high = tick(&mut station, bus_is_high);
+    let driven_high = if in_place {
+        in_place::tick(&mut station, bus_is_high)
+    } else {
+        tick(&mut station, bus_is_high)
+    };
     Ticked {
         station,
         driven_high,

@@ -8,7 +8,8 @@ use Rattle.laws.specs.Bit.{bit}
 use Rattle.laws.specs.Pick.{pick}
 use Rattle.halfbits.specs.declared.HalfBitBuffer.{HalfBitBuffer}
 use Rattle.fsm.specs.Station.{lastEvent}
-use Rattle.fsm.specs.Starting.{isIdle, startTx}
+use Rattle.fsm.specs.Starting.{startTx}
+use Rattle.machine.specs.States.{isIdle}
 use Rattle.fsm.specs.Ticking.{ticked}
 use Rattle.fsm.specs.declared.DaliBitbangPhy.{DaliBitbangPhy}
 use Rattle.timed_ticks.specs.declared.Pass.{Pass}

@@ -5,10 +5,8 @@ ghost use Prim.Native.Nat.{_+_, _≤_, _<_};
 ghost use lib.ListN.{getD};
 ghost use Rattle.laws.specs.Bit.{bit};
 ghost use Rattle.fsm.specs.Station.{newStation};
-ghost use Rattle.fsm.specs.Starting.{isIdle};
 ghost use Rattle.fsm.specs.Ticking.{ticked};
 ghost use Rattle.timed_ticks.specs.Ticks.{startsOf, levelOf, passOf, summed, timedFrom};
-use fsm::BusState;
 use fsm::DALI_RX_SAMPLE_BUF_LEN;
 use fsm::DaliBitbangPhy;
 use halfbits::HalfBitBuffer;
@@ -26,22 +24,12 @@ struct Pass {
     highs: u32,
 }
 
-fn is_idle(bus_state: BusState) -> bool
-    ensures { λ r. ⌜ r ≡ isIdle «bus_state» ⌝ }
-{
-    match bus_state {
-        BusState::Idle => true,
-        BusState::Rx => false,
-        BusState::Tx => false,
-        BusState::CollisionTx => false,
-    }
-}
-
 fn starts(sends: bool, station: DaliBitbangPhy) -> bool
     ensures { λ r. ⌜ r ≡ startsOf sends station ⌝ }
 {
     if sends {
-        return is_idle(station.bus_state());
+        let bus_state = station.bus_state();
+        return bus_state.is_idle();
     }
     false
 }
@@ -126,12 +114,12 @@ pub extern "C" fn timed_ticks(levels: &[u8; LEVELS], passes: u32, sends: bool) -
     sum
 }
 
-// The level that a new station drives after one tick, by the form that firmware calls. It holds `host::tick` in the library, where timing/native
+// The level that a new station drives after one tick, by the form that firmware calls. It holds `in_place::tick` in the library, where timing/native
 // finds it for a clock that calls it one tick at a time.
 #[no_mangle]
 pub extern "C" fn first_level(bus_is_high: bool) -> bool
     ensures { λ r. ⌜ r ≡ ticked newStation «bus_is_high» .«driven_high» ⌝ }
 {
-    let ticked = host::tick_lent(DaliBitbangPhy::new(), bus_is_high);
+    let ticked = host::tick_lent(DaliBitbangPhy::new(), bus_is_high, true);
     ticked.driven_high
 }

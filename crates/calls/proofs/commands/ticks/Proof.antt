@@ -37,11 +37,11 @@ cast-high c = search needs
 shr-high : tie.Need-shr-high Inv-loop μ-loop
 shr-high c = search needs
 
-tick-lent-requires : tie.Need-tick-lent-requires Inv-loop μ-loop
-tick-lent-requires c κs = search needs
-
 tick-requires : tie.Need-tick-requires Inv-loop μ-loop
 tick-requires c κs = search needs
+
+tick-lent-requires : tie.Need-tick-lent-requires Inv-loop μ-loop
+tick-lent-requires c κs = search needs
 
 array-read-driven : tie.Need-array-read-driven Inv-loop μ-loop
 array-read-driven c = search needs
@@ -91,8 +91,8 @@ ticks-spec =
     array-read-high
     cast-high
     shr-high
-    tick-lent-requires
     tick-requires
+    tick-lent-requires
     array-read-driven
     cast-driven
     cast-driven-2

@@ -1,0 +1,95 @@
+-- What each way through a tick in place leaves is what a tick leaves. Assumes nothing.
+use Prim.Native.Nat.{min}
+use mathlib.Core.Bool.{Bool, true, false}
+use mathlib.Core.Path.{_≡_, refl, sym, ap, _∙_}
+use Rattle.laws.proofs.Picked.{on-true, on-false}
+use Rattle.capture.specs.declared.Samples.{Samples}
+use Rattle.capture.specs.Samples.{withByte}
+use Rattle.machine.specs.Fields.{withRx}
+use Rattle.machine.specs.Runs.{heardOf}
+use Rattle.machine.specs.Idle.{silent, idleTick}
+use Rattle.machine.specs.Sending.{txTick}
+use Rattle.machine.specs.Collision.{collisionTick}
+use Rattle.machine.specs.declared.BusState.{BusState}
+use Rattle.machine.specs.declared.BusState.the-variants as bus
+use Rattle.machine.specs.declared.Core.{Core}
+use Rattle.machine.specs.declared.Rx.{Rx}
+use Rattle.fsm.specs.declared.DaliBitbangPhy.{DaliBitbangPhy}
+use Rattle.fsm.specs.declared.LastRx.{LastRx}
+use Rattle.fsm.specs.declared.Ticked.{Ticked}
+use Rattle.fsm.specs.Station.{withCore, stationOf}
+use Rattle.fsm.specs.Rx.{shifted, eighth, sampled, filled, goesOn, finished, lastOf, notified, wentOn, rxTick}
+use Rattle.fsm.specs.Ticking.{actOf, ticked}
+use Rattle.fsm.proofs.Ticks.{acted}
+
+-- a station, and the level that it drives
+abbrev pub driving : DaliBitbangPhy → Ticked
+driving t = record { station = t; «driven_high» = t .core .bus .«driven_high» }
+
+-- a station with another capture, and with another event
+abbrev pub withData : DaliBitbangPhy → Samples → DaliBitbangPhy
+withData s bytes = stationOf (s .core) bytes (s .«tx_hb») (s .«last_rx»)
+
+abbrev pub withEvent : DaliBitbangPhy → LastRx → DaliBitbangPhy
+withEvent s event = stationOf (s .core) (s .«rx_data») (s .«tx_hb») event
+
+module _ (s : DaliBitbangPhy) (high : Bool) where
+  abbrev pub hears : Core
+  hears = heardOf (s .core) high
+
+  abbrev Is : BusState → Type 0
+  Is x = hears .bus .«bus_state» ≡ x
+
+  leaves : (x : BusState) → Is x → (t : DaliBitbangPhy) → t ≡ actOf x s hears high → driving t ≡ ticked s high
+  leaves x e t d = acted s high hears t refl (d ∙ ap (λ (y : BusState). actOf y s hears high) (sym e))
+
+  pub counts : high ≡ true → Is bus.Idle → driving (withCore s (silent hears)) ≡ ticked s high
+  unfolding actOf idleTick
+  counts up e = leaves bus.Idle e _ (ap (withCore s) (sym (on-true up _ _)))
+
+  pub falls : high ≡ false → Is bus.Idle → driving (withCore s (idleTick hears false)) ≡ ticked s high
+  unfolding actOf
+  falls down e = leaves bus.Idle e _ (ap (λ (h : Bool). withCore s (idleTick hears h)) (sym down))
+
+  pub sends : Is bus.Tx → driving (withCore s (txTick hears (s .«tx_hb») high)) ≡ ticked s high
+  unfolding actOf
+  sends e = leaves bus.Tx e _ refl
+
+  pub breaks : Is bus.CollisionTx → driving (withCore s (collisionTick hears high)) ≡ ticked s high
+  unfolding actOf
+  breaks e = leaves bus.CollisionTx e _ refl
+
+  -- ---- Rx: where the capture stands after the sample, and what it then is
+  abbrev pub rxOf : Rx
+  rxOf = sampled (hears .rx) high
+
+  abbrev pub dataOf : Samples
+  dataOf = filled (s .«rx_data») (hears .rx) high
+
+  -- with the byte that the sample completes
+  abbrev pub withEighth : Samples
+  withEighth = withByte (s .«rx_data») (min (hears .rx .«rx_pos») 63) (shifted (hears .rx) high)
+
+  pub fills : eighth (hears .rx) ≡ true → withEighth ≡ dataOf
+  unfolding filled
+  fills e = sym (on-true e _ _)
+
+  pub keeps : eighth (hears .rx) ≡ false → s .«rx_data» ≡ dataOf
+  unfolding filled
+  keeps e = sym (on-false e _ _)
+
+  -- the capture with its end, and the station that has its event and not yet its core
+  abbrev pub withEnd : Samples → Samples
+  withEnd bytes = withByte bytes (rxOf .«rx_pos») 255
+
+  abbrev pub captured : Samples → DaliBitbangPhy
+  captured bytes = withEvent (withData s (withEnd bytes)) (lastOf (finished hears rxOf) (withEnd bytes))
+
+  module _ (e : Is bus.Rx) (bytes : Samples) (same : bytes ≡ dataOf) where
+    pub goes-on : goesOn rxOf ≡ true → driving (withCore (withData s bytes) (withRx hears rxOf)) ≡ ticked s high
+    unfolding actOf rxTick wentOn
+    goes-on g = leaves bus.Rx e _ (ap (λ (x : Samples). withCore (withData s x) (withRx hears rxOf)) same ∙ sym (on-true g _ _))
+
+    pub ends : goesOn rxOf ≡ false → driving (withCore (captured bytes) (finished hears rxOf)) ≡ ticked s high
+    unfolding actOf rxTick wentOn notified
+    ends g = leaves bus.Rx e _ (ap (λ (x : Samples). notified s (finished hears rxOf) (withEnd x)) same ∙ sym (on-false g _ _))
