@@ -19,7 +19,7 @@ use Rattle.machine.specs.declared.TxHb.{TxHb}
 use Rattle.machine.specs.declared.Core.{Core}
 
 -- ---- the half-bits
--- a half-bit of some bytes, top bit first: 1 pulls the line low, and so does no half-bit behind the last byte
+-- a half-bit of some bytes, top bit first: 1 pulls the line low, and 0 leaves it high. Behind the last byte there is 0.
 abbrev pub halfBitIn : List ℕ → ℕ → ℕ
 halfBitIn bytes at = getD bytes (at / 8) 0 / 2 ^ (7 - at % 8) % 2
 

@@ -1,4 +1,5 @@
--- Steps of a walk by hand, beside the kit's: all locals at once, a call by value, and an `if` that leaves the function or falls through.
+-- Steps of a walk by hand, beside the kit's: all locals at once, calls by value and calls that are lent a local, branches, and what stands behind a
+-- reference, read or set, from the loan's opening to its close.
 -- Assumes what the kit's walks assume (`Given`).
 use mathlib.Core.Path.{_≡_, refl, sym, _∙_, ap, subst}
 use Prim.Native.Nat.{ℕ, zero, suc, _+_}
