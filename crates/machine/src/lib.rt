@@ -195,7 +195,9 @@ pub struct TxHb {
 }
 
 // A station without its captures and half-bits. A change of a group is one literal that names all its fields: the compiler then keeps the
-// fields apart. The order of the groups, and that none has a gap, makes the least of the copies of a station that is lent.
+// fields apart. A group is bound first where an enum of it is handed on, since no enum is read at depth; in `drive_half_bit`,
+// `tick_collision_tx` and `load_tx` the compiler would make another tick without. The order of the groups, and that none has a gap, makes the
+// least of the copies of a station that is lent.
 pub struct Core {
     pub tx: Tx,
     pub collision_policy: CollisionPolicy,
@@ -323,54 +325,47 @@ impl Tx {
 
 impl Core {
     // Both run lengths, which each tick counts before it acts.
-    pub fn heard(self, bus_is_high: bool) -> Core
+    pub fn heard(mut self, bus_is_high: bool) -> Core
         ensures { λ r. ⌜ r ≡ heardOf self «bus_is_high» ⌝ }
     {
-        let mut core = self;
-        let old = core.runs;
         if bus_is_high {
-            let high = saturating_inc16(old.high_run_ticks);
+            let high = saturating_inc16(self.runs.high_run_ticks);
             let runs = Runs {
                 high_run_ticks: high,
                 low_run_ticks: 0,
             };
-            core.runs = runs;
-            return core;
+            self.runs = runs;
+            return self;
         }
-        let low = saturating_inc16(old.low_run_ticks);
+        let low = saturating_inc16(self.runs.low_run_ticks);
         let runs = Runs {
             high_run_ticks: 0,
             low_run_ticks: low,
         };
-        core.runs = runs;
-        core
+        self.runs = runs;
+        self
     }
 
     // IEC 62386-101, 7.2.2: the silence is counted from the line's last low, and not from here.
-    pub fn set_bus_idle(self) -> Core
+    pub fn set_bus_idle(mut self) -> Core
         ensures { λ r. ⌜ r ≡ idled self ⌝ }
     {
-        let mut core = self;
-        let runs = core.runs;
         let bus = Bus {
-            idlecnt: runs.high_run_ticks,
+            idlecnt: self.runs.high_run_ticks,
             bus_state: BusState::Idle,
             rx_debounce: 0,
             driven_high: true,
             tx_busy: false,
         };
-        core.bus = bus;
-        core
+        self.bus = bus;
+        self
     }
 
     // Rx with the low ticks that the debounce waited for as its first samples.
-    fn start_rx(self) -> Core
+    fn start_rx(mut self) -> Core
         ensures { λ r. ⌜ r ≡ entered self ⌝ }
     {
-        let mut core = self;
-        let old = core.bus;
-        let was = core.told;
-        let pre = pre_idle(old.idlecnt);
+        let pre = pre_idle(self.bus.idlecnt);
         let rx = Rx {
             rx_pos: 0,
             rx_byte: 0,
@@ -379,23 +374,23 @@ impl Core {
             rx_pre_idle: pre,
         };
         let bus = Bus {
-            idlecnt: old.idlecnt,
+            idlecnt: self.bus.idlecnt,
             bus_state: BusState::Rx,
-            rx_debounce: old.rx_debounce,
-            driven_high: old.driven_high,
-            tx_busy: old.tx_busy,
+            rx_debounce: self.bus.rx_debounce,
+            driven_high: self.bus.driven_high,
+            tx_busy: self.bus.tx_busy,
         };
         let told = Told {
-            tx_pre_idle: was.tx_pre_idle,
+            tx_pre_idle: self.told.tx_pre_idle,
             rx_state: RxState::Receiving,
-            tx_collision: was.tx_collision,
-            tx_idle_after_break: was.tx_idle_after_break,
-            tx_yielded: was.tx_yielded,
+            tx_collision: self.told.tx_collision,
+            tx_idle_after_break: self.told.tx_idle_after_break,
+            tx_yielded: self.told.tx_yielded,
         };
-        core.rx = rx;
-        core.bus = bus;
-        core.told = told;
-        core
+        self.rx = rx;
+        self.bus = bus;
+        self.told = told;
+        self
     }
 
     pub fn tick_idle(self, bus_is_high: bool) -> Core
@@ -405,19 +400,17 @@ impl Core {
             return self.count_idle();
         }
         let low = self.debounce();
-        let bus = low.bus;
-        if bus.rx_debounce < RX_START_DEBOUNCE_TICKS {
+        if low.bus.rx_debounce < RX_START_DEBOUNCE_TICKS {
             return low;
         }
         low.start_rx()
     }
 
     // A high tick of Idle.
-    pub fn count_idle(self) -> Core
+    pub fn count_idle(mut self) -> Core
         ensures { λ r. ⌜ r ≡ silent self ⌝ }
     {
-        let mut core = self;
-        let old = core.bus;
+        let old = self.bus;
         let bus_state = old.bus_state;
         let idlecnt = saturating_inc16(old.idlecnt);
         let bus = Bus {
@@ -427,16 +420,15 @@ impl Core {
             driven_high: old.driven_high,
             tx_busy: old.tx_busy,
         };
-        core.bus = bus;
-        core
+        self.bus = bus;
+        self
     }
 
     // A low tick of Idle is remembered.
-    fn debounce(self) -> Core
+    fn debounce(mut self) -> Core
         ensures { λ r. ⌜ r ≡ fell self ⌝ }
     {
-        let mut core = self;
-        let old = core.bus;
+        let old = self.bus;
         let bus_state = old.bus_state;
         let debounce = saturating_inc8(old.rx_debounce);
         let bus = Bus {
@@ -446,45 +438,40 @@ impl Core {
             driven_high: old.driven_high,
             tx_busy: old.tx_busy,
         };
-        core.bus = bus;
-        core
+        self.bus = bus;
+        self
     }
 
     fn tick_tx_armed(self, bus_is_high: bool) -> Core
         ensures { λ r. ⌜ r ≡ stepped (armedStep (self .tx) «bus_is_high») self ⌝ }
     {
-        let tx = self.tx;
-        if !bus_is_high && !tx.tx_answer {
+        if !bus_is_high && !self.tx.tx_answer {
             return self.yield_tx();
         }
         self.stay_armed()
     }
 
     // An armed tick that does not yield.
-    fn stay_armed(self) -> Core
+    fn stay_armed(mut self) -> Core
         ensures { λ r. ⌜ r ≡ armed self ⌝ }
     {
-        let mut core = self;
-        let old = core.tx;
-        let left = saturating_dec8(old.tx_armed);
+        let left = saturating_dec8(self.tx.tx_armed);
         let tx = Tx {
-            tx_hb_cnt: old.tx_hb_cnt,
-            tx_sp_cnt: old.tx_sp_cnt,
-            tx_high: old.tx_high,
+            tx_hb_cnt: self.tx.tx_hb_cnt,
+            tx_sp_cnt: self.tx.tx_sp_cnt,
+            tx_high: self.tx.tx_high,
             tx_armed: left,
-            tx_answer: old.tx_answer,
+            tx_answer: self.tx.tx_answer,
         };
-        core.tx = tx;
-        core
+        self.tx = tx;
+        self
     }
 
     // Somebody else was first. The low tick that told so is Idle's first.
-    fn yield_tx(self) -> Core
+    fn yield_tx(mut self) -> Core
         ensures { λ r. ⌜ r ≡ yielded self ⌝ }
     {
-        let mut core = self;
-        let was = core.told;
-        let old = core.tx;
+        let was = self.told;
         let rx_state = was.rx_state;
         let told = Told {
             tx_pre_idle: was.tx_pre_idle,
@@ -494,25 +481,22 @@ impl Core {
             tx_yielded: true,
         };
         let tx = Tx {
-            tx_hb_cnt: old.tx_hb_cnt,
-            tx_sp_cnt: old.tx_sp_cnt,
-            tx_high: old.tx_high,
+            tx_hb_cnt: self.tx.tx_hb_cnt,
+            tx_sp_cnt: self.tx.tx_sp_cnt,
+            tx_high: self.tx.tx_high,
             tx_armed: 0,
-            tx_answer: old.tx_answer,
+            tx_answer: self.tx.tx_answer,
         };
-        core.told = told;
-        core.tx = tx;
-        let idle = core.set_bus_idle();
+        self.told = told;
+        self.tx = tx;
+        let idle = self.set_bus_idle();
         idle.tick_idle(false)
     }
 
-    fn enter_collision_tx(self) -> Core
+    fn enter_collision_tx(mut self) -> Core
         ensures { λ r. ⌜ r ≡ clashed self ⌝ }
     {
-        let mut core = self;
-        let was = core.told;
-        let old = core.tx;
-        let on = core.bus;
+        let was = self.told;
         let rx_state = was.rx_state;
         let collision = saturating_inc8(was.tx_collision);
         let told = Told {
@@ -523,50 +507,47 @@ impl Core {
             tx_yielded: was.tx_yielded,
         };
         let tx = Tx {
-            tx_hb_cnt: old.tx_hb_cnt,
+            tx_hb_cnt: self.tx.tx_hb_cnt,
             tx_sp_cnt: 0,
-            tx_high: old.tx_high,
-            tx_armed: old.tx_armed,
-            tx_answer: old.tx_answer,
+            tx_high: self.tx.tx_high,
+            tx_armed: self.tx.tx_armed,
+            tx_answer: self.tx.tx_answer,
         };
         let bus = Bus {
-            idlecnt: on.idlecnt,
+            idlecnt: self.bus.idlecnt,
             bus_state: BusState::CollisionTx,
-            rx_debounce: on.rx_debounce,
-            driven_high: on.driven_high,
-            tx_busy: on.tx_busy,
+            rx_debounce: self.bus.rx_debounce,
+            driven_high: self.bus.driven_high,
+            tx_busy: self.bus.tx_busy,
         };
-        core.told = told;
-        core.tx = tx;
-        core.bus = bus;
-        core
+        self.told = told;
+        self.tx = tx;
+        self.bus = bus;
+        self
     }
 
     // One tick more of a half-bit.
-    fn hold_half_bit(self) -> Core
+    fn hold_half_bit(mut self) -> Core
         ensures { λ r. ⌜ r ≡ held self ⌝ }
     {
-        let mut core = self;
-        let old = core.tx;
-        let left = saturating_dec8(old.tx_sp_cnt);
+        let left = saturating_dec8(self.tx.tx_sp_cnt);
         let tx = Tx {
-            tx_hb_cnt: old.tx_hb_cnt,
+            tx_hb_cnt: self.tx.tx_hb_cnt,
             tx_sp_cnt: left,
-            tx_high: old.tx_high,
-            tx_armed: old.tx_armed,
-            tx_answer: old.tx_answer,
+            tx_high: self.tx.tx_high,
+            tx_armed: self.tx.tx_armed,
+            tx_answer: self.tx.tx_answer,
         };
-        core.tx = tx;
-        core
+        self.tx = tx;
+        self
     }
 
     // The first tick of a half-bit; three are left.
-    fn drive_half_bit(self, high: bool) -> Core
+    fn drive_half_bit(mut self, high: bool) -> Core
         ensures { λ r. ⌜ r ≡ driven self high ⌝ }
     {
-        let mut core = self;
-        let on = core.bus;
-        let old = core.tx;
+        let on = self.bus;
+        let old = self.tx;
         let bus_state = on.bus_state;
         let count = wrapping_inc8(old.tx_hb_cnt);
         let bus = Bus {
@@ -583,9 +564,9 @@ impl Core {
             tx_armed: old.tx_armed,
             tx_answer: old.tx_answer,
         };
-        core.bus = bus;
-        core.tx = tx;
-        core
+        self.bus = bus;
+        self.tx = tx;
+        self
     }
 
     // The first rule that fits.
@@ -615,11 +596,10 @@ impl Core {
     }
 
     // IEC 62386-101, 9.1.4: whoever finds the line high after its own break may go first.
-    fn leave_collision_tx(self, bus_is_high: bool) -> Core
+    fn leave_collision_tx(mut self, bus_is_high: bool) -> Core
         ensures { λ r. ⌜ r ≡ broke self «bus_is_high» ⌝ }
     {
-        let mut core = self;
-        let was = core.told;
+        let was = self.told;
         let rx_state = was.rx_state;
         let told = Told {
             tx_pre_idle: was.tx_pre_idle,
@@ -628,20 +608,19 @@ impl Core {
             tx_idle_after_break: bus_is_high,
             tx_yielded: was.tx_yielded,
         };
-        core.told = told;
-        let idle = core.set_bus_idle();
+        self.told = told;
+        let idle = self.set_bus_idle();
         if bus_is_high {
             return idle;
         }
         idle.tick_idle(false)
     }
 
-    pub fn tick_collision_tx(self, bus_is_high: bool) -> Core
+    pub fn tick_collision_tx(mut self, bus_is_high: bool) -> Core
         ensures { λ r. ⌜ r ≡ collisionTick self «bus_is_high» ⌝ }
     {
-        let mut core = self;
-        let on = core.bus;
-        let old = core.tx;
+        let on = self.bus;
+        let old = self.tx;
         let ticks = wrapping_inc8(old.tx_sp_cnt);
         let tx = Tx {
             tx_hb_cnt: old.tx_hb_cnt,
@@ -650,9 +629,9 @@ impl Core {
             tx_armed: old.tx_armed,
             tx_answer: old.tx_answer,
         };
-        core.tx = tx;
+        self.tx = tx;
         if COLLISION_CHECK_TICK <= ticks {
-            return core.leave_collision_tx(bus_is_high);
+            return self.leave_collision_tx(bus_is_high);
         }
         let bus_state = on.bus_state;
         let bus = Bus {
@@ -662,17 +641,16 @@ impl Core {
             driven_high: COLLISION_BREAK_TICKS < ticks,
             tx_busy: on.tx_busy,
         };
-        core.bus = bus;
-        core
+        self.bus = bus;
+        self
     }
 
     // A start that is not refused.
-    pub fn load_tx(self, answer: bool) -> Core
+    pub fn load_tx(mut self, answer: bool) -> Core
         ensures { λ r. ⌜ r ≡ loaded self answer ⌝ }
     {
-        let mut core = self;
-        let on = core.bus;
-        let old = core.tx;
+        let on = self.bus;
+        let old = self.tx;
         let bus = Bus {
             idlecnt: on.idlecnt,
             bus_state: BusState::Tx,
@@ -694,9 +672,9 @@ impl Core {
             tx_armed: TX_ARM_LEAD_TICKS,
             tx_answer: answer,
         };
-        core.bus = bus;
-        core.told = told;
-        core.tx = tx;
-        core
+        self.bus = bus;
+        self.told = told;
+        self.tx = tx;
+        self
     }
 }

@@ -18,14 +18,14 @@ debounce-requires c κs = search needs
 
 returns-2 : tie.Need-returns-2
 unfolding idleTick
-returns-2 c = simp (on-true (lt-ltb _ _ (c .if2 .taken)), ← c .before .before .before .debounce .ensures, on-false (c .before .before .before .before .if1 .left))
+returns-2 c = simp (on-true (lt-ltb _ _ (c .if2 .taken)), ← c .before .before .debounce .ensures, on-false (c .before .before .before .if1 .left))
 
 start-rx-requires : tie.Need-start-rx-requires
 start-rx-requires c κs = search needs
 
 returns-3 : tie.Need-returns-3
 unfolding idleTick
-returns-3 c = simp (← c .start-rx .ensures, on-false (le-ltb _ _ (c .before .if2 .left)), ← c .before .before .before .before .debounce .ensures, on-false (c .before .before .before .before .before .if1 .left))
+returns-3 c = simp (← c .start-rx .ensures, on-false (le-ltb _ _ (c .before .if2 .left)), ← c .before .before .before .debounce .ensures, on-false (c .before .before .before .before .if1 .left))
 
 pub tick-idle-spec : {M : Type 1} → statement M
 tick-idle-spec =
