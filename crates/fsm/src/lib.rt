@@ -249,49 +249,44 @@ pub fn with_end(rx_data: Samples, rx: Rx) -> Samples
     rx_data.with_byte(rx.rx_pos as usize, 0xFF)
 }
 
-pub fn with_rx(core: Core, rx: Rx) -> Core
+pub fn with_rx(mut core: Core, rx: Rx) -> Core
     ensures { λ r. ⌜ r ≡ withRx core rx ⌝ }
 {
-    let mut next = core;
-    next.rx = rx;
-    next
+    core.rx = rx;
+    core
 }
 
 // What is told of a capture that has ended.
 pub fn captured(core: Core, samples: Samples) -> LastRx
     ensures { λ r. ⌜ r ≡ lastOf core samples ⌝ }
 {
-    let rx = core.rx;
     LastRx {
         samples,
-        sample_count: rx.rx_pos,
-        pre_idle_ticks: rx.rx_pre_idle,
+        sample_count: core.rx.rx_pos,
+        pre_idle_ticks: core.rx.rx_pre_idle,
         filler: 0,
     }
 }
 
 // What the calls tell of, with another mark of the capture.
-fn in_rx_state(core: Core, rx_state: RxState) -> Core
+fn in_rx_state(mut core: Core, rx_state: RxState) -> Core
     ensures { λ r. ⌜ r ≡ withRxState core «rx_state» ⌝ }
 {
-    let mut marked = core;
-    let was = core.told;
     let told = Told {
-        tx_pre_idle: was.tx_pre_idle,
+        tx_pre_idle: core.told.tx_pre_idle,
         rx_state,
-        tx_collision: was.tx_collision,
-        tx_idle_after_break: was.tx_idle_after_break,
-        tx_yielded: was.tx_yielded,
+        tx_collision: core.told.tx_collision,
+        tx_idle_after_break: core.told.tx_idle_after_break,
+        tx_yielded: core.told.tx_yielded,
     };
-    marked.told = told;
-    marked
+    core.told = told;
+    core
 }
 
 // The capture is whole: one byte more for the idle line.
-pub fn end_rx(core: Core, rx: Rx) -> Core
+pub fn end_rx(mut core: Core, rx: Rx) -> Core
     ensures { λ r. ⌜ r ≡ finished core rx ⌝ }
 {
-    let mut counted = core;
     let count = machine::saturating_inc16(rx.rx_pos);
     let whole = Rx {
         rx_pos: count,
@@ -300,8 +295,8 @@ pub fn end_rx(core: Core, rx: Rx) -> Core
         rx_idle: rx.rx_idle,
         rx_pre_idle: rx.rx_pre_idle,
     };
-    counted.rx = whole;
-    let marked = in_rx_state(counted, RxState::Completed);
+    core.rx = whole;
+    let marked = in_rx_state(core, RxState::Completed);
     marked.set_bus_idle()
 }
 
@@ -390,15 +385,14 @@ impl DaliBitbangPhy {
         }
     }
 
-    pub fn set_collision_policy(self, p: CollisionPolicy) -> DaliBitbangPhy
+    pub fn set_collision_policy(mut self, p: CollisionPolicy) -> DaliBitbangPhy
         ensures { λ r. ⌜ r ≡ withPolicy self p ⌝ }
     {
-        let old = self.core;
-        let tx = old.tx;
-        let runs = old.runs;
-        let bus = old.bus;
-        let rx = old.rx;
-        let told = old.told;
+        let tx = self.core.tx;
+        let runs = self.core.runs;
+        let bus = self.core.bus;
+        let rx = self.core.rx;
+        let told = self.core.told;
         let core = Core {
             tx,
             collision_policy: p,
@@ -407,67 +401,58 @@ impl DaliBitbangPhy {
             rx,
             told,
         };
-        self.with_core(core)
+        self.core = core;
+        self
     }
 
-    fn with_core(self, core: Core) -> DaliBitbangPhy
+    fn with_core(mut self, core: Core) -> DaliBitbangPhy
         ensures { λ r. ⌜ r ≡ withCore self core ⌝ }
     {
-        let mut station = self;
-        station.core = core;
-        station
+        self.core = core;
+        self
     }
 
-    fn with_told(self, told: Told) -> DaliBitbangPhy
+    fn with_told(mut self, told: Told) -> DaliBitbangPhy
         ensures { λ r. ⌜ r ≡ withCore self (withTold (self .core) told) ⌝ }
     {
         let mut core = self.core;
         core.told = told;
-        self.with_core(core)
+        self.core = core;
+        self
     }
 
     // The event is ready.
-    fn finish_rx_and_notify(self, core: Core, rx_data: Samples) -> DaliBitbangPhy
+    fn finish_rx_and_notify(mut self, core: Core, rx_data: Samples) -> DaliBitbangPhy
         ensures { λ r. ⌜ r ≡ notified self core «rx_data» ⌝ }
     {
-        let tx_hb = self.tx_hb;
         let last_rx = captured(core, rx_data);
-        DaliBitbangPhy {
-            core,
-            rx_data,
-            tx_hb,
-            last_rx,
-        }
+        self.core = core;
+        self.rx_data = rx_data;
+        self.last_rx = last_rx;
+        self
     }
 
     fn tick_rx(self, core: Core, bus_is_high: bool) -> DaliBitbangPhy
         ensures { λ r. ⌜ r ≡ rxTick self core «bus_is_high» ⌝ }
     {
-        let old = core.rx;
-        let data = self.rx_data;
-        if old.rx_bit_cnt == 7 {
-            let rx = with_eighth(old, bus_is_high);
-            let rx_data = fill(data, old, bus_is_high);
+        if core.rx.rx_bit_cnt == 7 {
+            let rx = with_eighth(core.rx, bus_is_high);
+            let rx_data = fill(self.rx_data, core.rx, bus_is_high);
             return self.go_on(core, rx, rx_data);
         }
-        let rx = with_sample(old, bus_is_high);
-        self.go_on(core, rx, data)
+        let rx = with_sample(core.rx, bus_is_high);
+        self.go_on(core, rx, self.rx_data)
     }
 
     // The capture goes on, or the sixteenth high running ends it.
-    fn go_on(self, core: Core, rx: Rx, rx_data: Samples) -> DaliBitbangPhy
+    fn go_on(mut self, core: Core, rx: Rx, rx_data: Samples) -> DaliBitbangPhy
         ensures { λ r. ⌜ r ≡ wentOn self core rx «rx_data» ⌝ }
     {
         if rx.rx_idle < RX_IDLE_LINE_HIGH_TICKS {
             let next = with_rx(core, rx);
-            let tx_hb = self.tx_hb;
-            let last_rx = self.last_rx;
-            return DaliBitbangPhy {
-                core: next,
-                rx_data,
-                tx_hb,
-                last_rx,
-            };
+            self.core = next;
+            self.rx_data = rx_data;
+            return self;
         }
         self.finish_rx_and_notify(end_rx(core, rx), with_end(rx_data, rx))
     }
@@ -475,13 +460,10 @@ impl DaliBitbangPhy {
     pub fn tick(self, bus_is_high: bool) -> Ticked
         ensures { λ r. ⌜ r ≡ ticked self «bus_is_high» ⌝ }
     {
-        let old = self.core;
-        let station = self.act(old.heard(bus_is_high), bus_is_high);
-        let core = station.core;
-        let bus = core.bus;
+        let station = self.act(self.core.heard(bus_is_high), bus_is_high);
         Ticked {
             station,
-            driven_high: bus.driven_high,
+            driven_high: station.core.bus.driven_high,
         }
     }
 
@@ -503,8 +485,7 @@ impl DaliBitbangPhy {
         ensures { λ r. ⌜ r ≡ startTx self halfbits ⌝ }
         ensures { λ r. ⌜ numberOf (r .answer) ≡ startNumber (isIdle (self .core .bus .«bus_state»)) (lengthFits (halfbits .length)) ⌝ }
     {
-        let core = self.core;
-        let bus = core.bus;
+        let bus = self.core.bus;
         let bus_state = bus.bus_state;
         if bus_state.is_idle() {
             return self.load_tx(halfbits, false);
@@ -520,8 +501,7 @@ impl DaliBitbangPhy {
         ensures { λ r. ⌜ r ≡ startAnswer self halfbits ⌝ }
         ensures { λ r. ⌜ numberOf (r .answer) ≡ startNumber (hears (self .core .bus .«bus_state»)) (lengthFits (halfbits .length)) ⌝ }
     {
-        let core = self.core;
-        let bus = core.bus;
+        let bus = self.core.bus;
         let bus_state = bus.bus_state;
         if bus_state.is_idle_or_rx() {
             return self.load_tx(halfbits, true);
@@ -532,18 +512,16 @@ impl DaliBitbangPhy {
         }
     }
 
-    fn load_tx(self, halfbits: HalfBitBuffer, answer: bool) -> Started
+    fn load_tx(mut self, halfbits: HalfBitBuffer, answer: bool) -> Started
         ensures { λ r. ⌜ r ≡ started self halfbits answer ⌝ }
     {
         if length_fits(halfbits.length) {
-            let old = self.core;
-            let loaded = old.load_tx(answer);
+            let loaded = self.core.load_tx(answer);
             let tx_hb = TxHb::of(halfbits);
-            let mut station = self;
-            station.core = loaded;
-            station.tx_hb = tx_hb;
+            self.core = loaded;
+            self.tx_hb = tx_hb;
             return Started {
-                station,
+                station: self,
                 answer: StartAnswer::Started,
             };
         }
@@ -556,26 +534,22 @@ impl DaliBitbangPhy {
     pub fn bus_state(self) -> BusState
         ensures { λ r. ⌜ r ≡ self .core .bus .«bus_state» ⌝ }
     {
-        let core = self.core;
-        let bus = core.bus;
+        let bus = self.core.bus;
         bus.bus_state
     }
 
     pub fn line_debouncing(self) -> bool
         ensures { λ r. ⌜ r ≡ not (eqb (self .core .bus .«rx_debounce») 0) ⌝ }
     {
-        let core = self.core;
-        let bus = core.bus;
-        bus.rx_debounce != 0
+        self.core.bus.rx_debounce != 0
     }
 
     pub fn poll_tx_state(self) -> Polled
         ensures { λ r. ⌜ r ≡ polled self ⌝ }
         ensures { λ r. ⌜ Says (r .answer) self ⌝ }
     {
-        let core = self.core;
-        let was = core.told;
-        let bus = core.bus;
+        let was = self.core.told;
+        let bus = self.core.bus;
         let rx_state = was.rx_state;
         let bus_state = bus.bus_state;
         if was.tx_yielded {
@@ -620,8 +594,7 @@ impl DaliBitbangPhy {
     pub fn take_idle_after_break(self) -> TookIdle
         ensures { λ r. ⌜ r ≡ tookIdle self ⌝ }
     {
-        let core = self.core;
-        let was = core.told;
+        let was = self.core.told;
         let rx_state = was.rx_state;
         let told = Told {
             tx_pre_idle: was.tx_pre_idle,
@@ -639,73 +612,62 @@ impl DaliBitbangPhy {
     pub fn rx_state(self) -> RxState
         ensures { λ r. ⌜ r ≡ self .core .told .«rx_state» ⌝ }
     {
-        let core = self.core;
-        let told = core.told;
+        let told = self.core.told;
         told.rx_state
     }
 
     pub fn idle_tick_count(self) -> u16
         ensures { λ r. ⌜ r ≡ self .core .bus .idlecnt ⌝ }
     {
-        let core = self.core;
-        let bus = core.bus;
-        bus.idlecnt
+        self.core.bus.idlecnt
     }
 
     pub fn bus_low_run_ticks(self) -> u16
         ensures { λ r. ⌜ r ≡ self .core .runs .«low_run_ticks» ⌝ }
     {
-        let core = self.core;
-        let runs = core.runs;
-        runs.low_run_ticks
+        self.core.runs.low_run_ticks
     }
 
     pub fn tx_pre_idle_ticks(self) -> u16
         ensures { λ r. ⌜ r ≡ self .core .told .«tx_pre_idle» ⌝ }
     {
-        let core = self.core;
-        let told = core.told;
-        told.tx_pre_idle
+        self.core.told.tx_pre_idle
     }
 
     pub fn rx_pre_idle_ticks(self) -> u8
         ensures { λ r. ⌜ r ≡ self .core .rx .«rx_pre_idle» ⌝ }
     {
-        let core = self.core;
-        let rx = core.rx;
-        rx.rx_pre_idle
+        self.core.rx.rx_pre_idle
     }
 
     pub fn tx_busy(self) -> bool
         ensures { λ r. ⌜ r ≡ self .core .bus .«tx_busy» ⌝ }
     {
-        let core = self.core;
-        let bus = core.bus;
-        bus.tx_busy
+        self.core.bus.tx_busy
     }
 
     // The level that the station holds the line at: what the Rust's HAL was last told.
     pub fn driven_high(self) -> bool
         ensures { λ r. ⌜ r ≡ self .core .bus .«driven_high» ⌝ }
     {
-        let core = self.core;
-        let bus = core.bus;
-        bus.driven_high
+        self.core.bus.driven_high
     }
 
     pub fn last_rx_event(self) -> RxCompletedEvent
         ensures { λ r. ⌜ r ≡ lastEvent self ⌝ }
     {
-        let last_rx = self.last_rx;
-        let kept = last_rx.samples;
-        RxCompletedEvent::of_capture(kept.bytes(), last_rx.sample_count, last_rx.pre_idle_ticks)
+        let kept = self.last_rx.samples;
+        RxCompletedEvent::of_capture(
+            kept.bytes(),
+            self.last_rx.sample_count,
+            self.last_rx.pre_idle_ticks,
+        )
     }
 
     pub fn acknowledge_rx_frame(self) -> DaliBitbangPhy
         ensures { λ r. ⌜ r ≡ acknowledged (self .core .told .«rx_state») self ⌝ }
     {
-        let core = self.core;
-        let told = core.told;
+        let told = self.core.told;
         let rx_state = told.rx_state;
         match rx_state {
             RxState::Empty => self,
@@ -717,15 +679,13 @@ impl DaliBitbangPhy {
     fn without_capture(self) -> DaliBitbangPhy
         ensures { λ r. ⌜ r ≡ acknowledged Completed self ⌝ }
     {
-        let core = self.core;
-        self.with_core(in_rx_state(core, RxState::Empty))
+        self.with_core(in_rx_state(self.core, RxState::Empty))
     }
 
     pub fn take_completed_rx_event(self) -> TookRx
         ensures { λ r. ⌜ r ≡ tookRx (self .core .told .«rx_state») self ⌝ }
     {
-        let core = self.core;
-        let told = core.told;
+        let told = self.core.told;
         let rx_state = told.rx_state;
         match rx_state {
             RxState::Empty => self.took_none(),

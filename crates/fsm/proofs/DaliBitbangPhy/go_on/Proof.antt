@@ -11,7 +11,7 @@ with-rx-requires c κs = search needs
 
 returns : tie.Need-returns
 unfolding wentOn
-returns c = simp (← c .before .before .with-rx .ensures, on-true (lt-ltb _ _ (c .before .before .before .if1 .taken)))
+returns c = simp (← c .with-rx .ensures, on-true (lt-ltb _ _ (c .before .if1 .taken)))
 
 end-rx-requires : tie.Need-end-rx-requires
 end-rx-requires c κs = search needs

@@ -16,7 +16,7 @@ of-requires c κs = search needs
 
 returns : tie.Need-returns
 unfolding started loadedWith
-returns c = simp (← c .of .ensures, ← c .before .load-tx .ensures, on-true (c .before .before .before .if1 .taken), ← c .before .before .before .before .length-fits .ensures)
+returns c = simp (← c .of .ensures, ← c .before .load-tx .ensures, on-true (c .before .before .if1 .taken), ← c .before .before .before .length-fits .ensures)
 
 returns-2 : tie.Need-returns-2
 unfolding started loadedWith

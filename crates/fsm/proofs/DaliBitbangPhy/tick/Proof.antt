@@ -11,7 +11,7 @@ act-requires : tie.Need-act-requires
 act-requires c κs = search needs
 
 returns : tie.Need-returns
-returns c = acted _ _ _ _ (c .before .before .before .heard .ensures) (c .before .before .act .ensures)
+returns c = acted _ _ _ _ (c .before .heard .ensures) (c .act .ensures)
 
 pub tick-spec : {M : Type 1} → statement M
 tick-spec = tie.close (tie.spec heard-requires act-requires returns)
