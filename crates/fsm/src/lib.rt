@@ -9,7 +9,7 @@ ghost use Rattle.machine.specs.States.{isIdle, hears};
 ghost use Rattle.machine.specs.Fields.{withRx, withTold, withRxState};
 ghost use Rattle.fsm.specs.Constants.{publicConstants};
 ghost use Rattle.fsm.specs.Station.{lastEvent, withCore, newCore, newStation};
-ghost use Rattle.fsm.specs.Rx.{highRun, filledUp, shiftedIn, sampled, lastOf, finished, notified, wentOn, rxTick};
+ghost use Rattle.fsm.specs.Rx.{shifted, highRun, filledUp, shiftedIn, sampled, lastOf, finished, notified, wentOn, rxTick};
 ghost use Rattle.fsm.specs.Ticking.{actOf, ticked};
 ghost use Rattle.fsm.specs.Refusals.{numberOf, startNumber};
 ghost use Rattle.fsm.specs.Starting.{lengthFits, started, startTx, startAnswer};
@@ -237,7 +237,7 @@ pub fn sample(rx: Rx, bus_is_high: bool) -> Rx
 
 // The capture with the byte that an eighth sample completes.
 pub fn fill(rx_data: Samples, rx: Rx, bus_is_high: bool) -> Samples
-    ensures { λ r. ⌜ r ≡ withByte «rx_data» (min (rx .«rx_pos») 63) (rx .«rx_byte» % 128 * 2 + bit «bus_is_high») ⌝ }
+    ensures { λ r. ⌜ r ≡ withByte «rx_data» (min (rx .«rx_pos») 63) (shifted rx «bus_is_high») ⌝ }
 {
     rx_data.with_byte(slot(rx.rx_pos), shifted(rx.rx_byte, bus_is_high))
 }
