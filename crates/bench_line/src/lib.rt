@@ -349,7 +349,7 @@ impl BenchLine {
     }
 
     pub fn acknowledge_rx_frame(self, number: u8) -> LineChanged
-        ensures { λ r. ⌜ r ≡ changedAt self number (acknowledged (stationAt self number .core .told .«rx_state») (stationAt self number)) ⌝ }
+        ensures { λ r. ⌜ r ≡ changedAt self number (acknowledged (stationAt self number)) ⌝ }
         ensures { λ r. ⌜ doneNumber (r .answer) ≡ pick (isOn self number) 0 9 ⌝ }
     {
         let station = self.at(number);
@@ -357,7 +357,7 @@ impl BenchLine {
     }
 
     pub fn take_completed_rx_event(self, number: u8) -> LineTookRx
-        ensures { λ r. ⌜ r ≡ tookRxAt self number (tookRx (stationAt self number .core .told .«rx_state») (stationAt self number)) ⌝ }
+        ensures { λ r. ⌜ r ≡ tookRxAt self number (tookRx (stationAt self number)) ⌝ }
         ensures { λ r. ⌜ toldNumber (r .answer) ≡ pick (isOn self number) 0 9 ⌝ }
     {
         let station = self.at(number);

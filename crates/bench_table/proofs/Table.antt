@@ -29,6 +29,7 @@ use Rattle.capture.specs.Samples as capture
 use Rattle.event.specs.Event.{eventOf}
 use Rattle.machine.specs.declared.RxState.the-variants.{Empty}
 use Rattle.machine.specs.Runs.{heardOf}
+use Rattle.machine.specs.States.{isCompleted}
 use Rattle.machine.specs.BecomingIdle.{idled}
 use Rattle.machine.specs.Idle.{entered, idleTick, silent, fell}
 use Rattle.fsm.specs.Rx.{highRun, sampled, filled, finished, notified, wentOn, rxTick}
@@ -66,7 +67,7 @@ waits zero = (refl, refl)
 waits (suc n) = waits-on (heard (suc n) (λ tick. getD (low ∷ []) tick high) newStation) (waits n)
 
 none-of-one-low : Says (captures-nothing (replicate 1 low))
-unfolding Says tookRx
+unfolding Says tookRx isCompleted
 none-of-one-low highs = let e : 1 + highs ≡ suc highs = omega arith in rw (e, waits highs .1)
 
 -- ---- a lone start bit
@@ -103,7 +104,7 @@ unfolding rows AllSay Says weightOf folded halfWeight bitWeight holds setOf with
     encodedOf isBitCount frameOf answerOf bufferOf storeOf pulls levelAt waveOf bitWaves bitWave bitsOf bytesOf bitAt
     heard tickOf actOf idleTick silent fell entered rxTick wentOn sampled highRun filled finished notified idled heardOf
     capture.bytesOf capture.byteIn capture.samplesOf capture.wordIn capture.withByte
-    tookRx eventOf newStation newCore
+    tookRx isCompleted eventOf newStation newCore
     sniffedOf foundOr searchedIn ticksOf lowsFirst longestLow
     runOf firstDone stepOf firstOf endedOf scannedOf keptOf acceptedOf
     phaseOf phase.bitsOf bitsFrom weightAround strideAround strideOf lengthOf scoreOf decodeOf windowOf tickAt peekAt

@@ -75,7 +75,7 @@ Says (captures levels count bytes) =
     IsReady s × (taken s .«sample_count» ≡ count) × (take count (taken s .samples) ≡ bytes)
 Says (scores levels score) = sniffedOf (foundIn (taken (hearing levels 16))) .score ≡ score
 Says (captures-nothing levels) =
-    (highs : ℕ) → let s = hearing levels highs in tookRx (s .core .told .«rx_state») s .completed ≡ false
+    (highs : ℕ) → tookRx (hearing levels highs) .completed ≡ false
 Says (reads-at-phase-0 capture bits score) =
     (behind : List ℕ) (most : ℕ)
     → let d = phaseOf (windowOf (capture ++ behind) (length capture)) most (pos 0) in (d .«bit_len» ≡ bits) × (d .score ≡ score)

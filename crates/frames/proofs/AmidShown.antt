@@ -23,7 +23,7 @@ use Rattle.fsm.specs.declared.DaliBitbangPhy.{DaliBitbangPhy}
 use Rattle.fsm.specs.declared.TxPollResult.the-variants.{Ok, Transmitting}
 use Rattle.fsm.specs.Station.{newCore, newStation}
 use Rattle.fsm.specs.Ticking.{actOf, tickOf}
-use Rattle.machine.specs.States.{hears}
+use Rattle.machine.specs.States.{hears, isCompleted}
 use Rattle.fsm.specs.Polling.{polled}
 use Rattle.fsm.specs.Calls.{tookRx}
 use Rattle.reached.specs.Calls.{Call, tick, start-tx, start-answer, poll, take-idle, take-rx, acknowledge, policy, after, afterAll, isBetween, Reached, new, called}
@@ -147,7 +147,7 @@ all-reached [] s reached = reached
 all-reached (c ∷ cs) s reached = all-reached cs (after c s) (called c reached)
 
 holds-noise : let s = afterAll noise newStation in IsIdle s × IsReady s
-unfolding noise times afterAll after newStation newCore tickOf actOf heardOf idled idleTick silent fell entered sampled highRun rxTick wentOn filled notified finished tookRx pick
+unfolding noise times afterAll after newStation newCore tickOf actOf heardOf idled idleTick silent fell entered sampled highRun rxTick wentOn filled notified finished tookRx isCompleted pick
 holds-noise = (refl, refl)
 
 pub hears-after-noise : (hb : HalfBitBuffer) (byte : ℕ) → byte < 256 → Hears hb byte (afterAll noise newStation)

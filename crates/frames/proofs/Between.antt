@@ -9,12 +9,11 @@ use Rattle.laws.specs.Pick.{pick}
 use Rattle.laws.proofs.Picked.{cases}
 use Rattle.machine.specs.declared.BusState.the-variants as bus
 use Rattle.machine.specs.declared.RxState.{RxState}
-use Rattle.machine.specs.declared.RxState.the-variants.{Empty, Receiving, Completed}
 use Rattle.fsm.specs.declared.DaliBitbangPhy.{DaliBitbangPhy}
 use Rattle.fsm.specs.declared.Polled.{Polled}
 use Rattle.fsm.specs.Ticking.{tickOf}
 use Rattle.fsm.specs.Starting.{startTx, startAnswer}
-use Rattle.machine.specs.States.{isIdle, hears, isTx}
+use Rattle.machine.specs.States.{isIdle, hears, isTx, isCompleted}
 use Rattle.fsm.specs.Polling.{polled}
 use Rattle.fsm.specs.Calls.{withPolicy, tookIdle, acknowledged, tookRx}
 use Rattle.reached.specs.Calls.{Call, tick, start-tx, start-answer, poll, take-idle, take-rx, acknowledge, policy, after, afterAll, isBetween}
@@ -38,27 +37,19 @@ module _ (s : DaliBitbangPhy) where
   polled-clear clear =
       rw (clear .1, clear .0) (cases (λ (x : Polled). Clear (x .station)) (isTx (s .core .bus .«bus_state»)) (λ _. (refl, refl)) (λ _. (refl, refl)))
 
-  acknowledged-clear : (mark : RxState) → Clear s → Clear (acknowledged mark s)
+  acknowledged-clear : Clear s → Clear (acknowledged s)
   unfolding acknowledged
-  acknowledged-clear Empty clear = clear
-  acknowledged-clear Receiving clear = clear
-  acknowledged-clear Completed clear = clear
-
-  taken-clear : (mark : RxState) → Clear s → Clear (tookRx mark s .station)
-  unfolding tookRx
-  taken-clear Empty clear = clear
-  taken-clear Receiving clear = clear
-  taken-clear Completed clear = acknowledged-clear Completed clear
+  acknowledged-clear clear = cases Clear (isCompleted (markOf s)) (λ _. clear) (λ _. clear)
 
   still-clear : (c : Call) → isBetween c ≡ true → Clear s → Clear (after c s)
-  unfolding after isBetween tookIdle withPolicy
+  unfolding after isBetween tookIdle tookRx withPolicy
   still-clear (tick high) b clear = absurd (false≢true b)
   still-clear (start-tx hb) b clear = absurd (false≢true b)
   still-clear (start-answer hb) b clear = absurd (false≢true b)
   still-clear poll b clear = polled-clear clear
   still-clear take-idle b clear = clear
-  still-clear take-rx b clear = taken-clear (markOf s) clear
-  still-clear acknowledge b clear = acknowledged-clear (markOf s) clear
+  still-clear take-rx b clear = acknowledged-clear clear
+  still-clear acknowledge b clear = acknowledged-clear clear
   still-clear (policy p) b clear = clear
 
   -- the mark of a capture

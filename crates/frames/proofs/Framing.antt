@@ -7,6 +7,7 @@ use mathlib.Core.Path.{_≡_, refl, _∙_, ap, subst}
 use lib.IntN.{pos}
 use lib.ListN.{length}
 use Rattle.laws.specs.Pick.{pick}
+use Rattle.laws.proofs.Picked.{cases}
 use Rattle.lengths.specs.declared.BitLengths.{BitLengths}
 use Rattle.lengths.specs.Lengths.{withLength, withLengths, setOf, holds, sniffedLengths, backwardLengths}
 use Rattle.window.specs.declared.PhaseDecode.{PhaseDecode}
@@ -18,8 +19,7 @@ use Rattle.event.specs.declared.RxCompletedEvent.{RxCompletedEvent}
 use Rattle.event.specs.Event.{eventOf, newEvent}
 use Rattle.halfbits.specs.Frame.{Frame, bits-8, bits-16, bits-24, bytesOf, frameBits, AreBytes}
 use Rattle.halfbits.specs.Wave.{levelAt}
-use Rattle.machine.specs.declared.RxState.{RxState}
-use Rattle.machine.specs.declared.RxState.the-variants.{Empty, Receiving, Completed}
+use Rattle.machine.specs.States.{isCompleted}
 use Rattle.fsm.specs.declared.DaliBitbangPhy.{DaliBitbangPhy}
 use Rattle.fsm.specs.Calls.{tookRx}
 use Rattle.rx_decode.specs.declared.BackwardByte.the-variants.{Byte}
@@ -46,11 +46,11 @@ is-sniffed (bits-24 a b c) = rw (as-many (a ∷ b ∷ c ∷ []))
 
 -- ---- the readings
 -- no event of a station holds a decode
-fresh : (state : RxState) (s : DaliBitbangPhy) → tookRx state s .event .«isr_decode» ≡ NotDecoded
+fresh : (s : DaliBitbangPhy) → tookRx s .event .«isr_decode» ≡ NotDecoded
 unfolding tookRx newEvent eventOf
-fresh Empty s = refl
-fresh Receiving s = refl
-fresh Completed s = refl
+fresh s =
+    let P : RxCompletedEvent → Type 0 = λ (ev : RxCompletedEvent). ev .«isr_decode» ≡ NotDecoded in
+    cases P (isCompleted (s .core .told .«rx_state»)) (λ _. refl) (λ _. refl)
 
 abbrev decode : Frame → PhaseDecode
 decode frame = decodeOf (pos 0) (bits (frameWeights (frameBits frame)))
@@ -89,7 +89,7 @@ pub wave-to-frame-amid : WaveToFrameAmid
 wave-to-frame-amid frame are s reached idle host lets ticks whole =
     let (some, few) = few-bits frame in
     let (idle-again, ready, at-phase-0, step) = wave-to-bits-amid (frameBits frame) (omega arith) s reached idle host lets ticks whole in
-    (idle-again, ready, read-as _ (fresh _ _) frame are step)
+    (idle-again, ready, read-as _ (fresh _) frame are step)
 
 pub wave-to-frame : WaveToFrame
 wave-to-frame frame are s reached idle ticks whole =

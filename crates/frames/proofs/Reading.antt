@@ -8,6 +8,7 @@ use mathlib.Core.Path.{_≡_, refl, _∙_, ap, subst}
 use lib.IntN.{pos}
 use lib.ListN.{length}
 use borrow.Author.Tests.{lt-ltb, le-ltb}
+use Rattle.laws.specs.Pick.{pick}
 use Rattle.laws.proofs.Picked.{on-true, on-false}
 use Rattle.lengths.specs.declared.BitLengths.{BitLengths}
 use Rattle.lengths.specs.Lengths.{holds}
@@ -20,6 +21,7 @@ use Rattle.search.specs.Steps.{searchOf}
 use Rattle.search.proofs.Runs.{run-of-new}
 use Rattle.event.specs.Event.{eventOf}
 use Rattle.halfbits.specs.Wave.{high, levelAt}
+use Rattle.machine.specs.States.{isCompleted}
 use Rattle.fsm.specs.declared.DaliBitbangPhy.{DaliBitbangPhy}
 use Rattle.fsm.specs.Calls.{tookRx}
 use Rattle.frames.specs.ReadAs.{FitsCapture, taken, IsReady, windowIn, cleanWeights, frameWeights, ReadAtPhase0, FoundInOneStep, HasBits}
@@ -57,11 +59,11 @@ module _ (frame : List Bool) (fits : FitsCapture frame) (s : DaliBitbangPhy) (ca
   capture = caught .capture
 
   is-ready : IsReady s
-  unfolding tookRx
+  unfolding tookRx isCompleted
   is-ready = rw (capture .ready)
 
   window-is : windowIn (taken s) ≡ windowOf (handed s) (caught .end / 8 + 1)
-  unfolding tookRx eventOf
+  unfolding tookRx eventOf isCompleted pick
   window-is = rw (capture .ready, capture .count)
 
   idle-behind : (k : ℕ) → 8 * (caught .end / 8) ≤ k → late (caught .front) (levelAt frame) k ≡ high

@@ -34,10 +34,10 @@ FitsCapture frame = length frame ≤ 59
 
 -- the event that can then be taken
 abbrev pub taken : DaliBitbangPhy → RxCompletedEvent
-taken s = tookRx (s .core .told .«rx_state») s .event
+taken s = tookRx s .event
 
 abbrev pub IsReady : DaliBitbangPhy → Type 0
-IsReady s = tookRx (s .core .told .«rx_state») s .completed ≡ true
+IsReady s = tookRx s .completed ≡ true
 
 abbrev pub windowIn : RxCompletedEvent → SampleWindow
 windowIn ev = windowOf (ev .samples) (ev .«sample_count»)

@@ -1,9 +1,10 @@
 -- The other calls of a station that change it. Assumes nothing.
-use mathlib.Core.Bool.{true, false}
+use mathlib.Core.Bool.{false}
+use Rattle.laws.specs.Pick.{pick}
 use Rattle.event.specs.Event.{newEvent}
 use Rattle.machine.specs.Fields as core
-use Rattle.machine.specs.declared.RxState.{RxState}
-use Rattle.machine.specs.declared.RxState.the-variants.{Empty, Receiving, Completed}
+use Rattle.machine.specs.States.{isCompleted}
+use Rattle.machine.specs.declared.RxState.the-variants.{Empty}
 use Rattle.machine.specs.declared.CollisionPolicy.{CollisionPolicy}
 use Rattle.fsm.specs.Station.{lastEvent, withCore}
 use Rattle.fsm.specs.declared.DaliBitbangPhy.{DaliBitbangPhy}
@@ -21,13 +22,13 @@ tookIdle s = record {
 }
 
 -- A capture that is ready is marked as taken; its bytes stay. Anything else is left as it is.
-unfoldable pub acknowledged : RxState → DaliBitbangPhy → DaliBitbangPhy
-acknowledged Empty s = s
-acknowledged Receiving s = s
-acknowledged Completed s = withCore s (core.withRxState (s .core) Empty)
+unfoldable pub acknowledged : DaliBitbangPhy → DaliBitbangPhy
+acknowledged s = pick (isCompleted (s .core .told .«rx_state»)) (withCore s (core.withRxState (s .core) Empty)) s
 
 -- The event, and it is acknowledged; or none, which a fresh event stands for.
-unfoldable pub tookRx : RxState → DaliBitbangPhy → TookRx
-tookRx Empty s = record { station = s; completed = false; event = newEvent }
-tookRx Receiving s = record { station = s; completed = false; event = newEvent }
-tookRx Completed s = record { station = acknowledged Completed s; completed = true; event = lastEvent s }
+unfoldable pub tookRx : DaliBitbangPhy → TookRx
+tookRx s = record {
+  station = acknowledged s;
+  completed = isCompleted (s .core .told .«rx_state»);
+  event = pick (isCompleted (s .core .told .«rx_state»)) (lastEvent s) newEvent;
+}

@@ -15,7 +15,6 @@ ghost use Rattle.fsm.specs.Refusals.{numberOf, startNumber};
 ghost use Rattle.fsm.specs.Starting.{lengthFits, started, startTx, startAnswer};
 ghost use Rattle.fsm.specs.Polling.{pollResultNumber, Says, polled};
 ghost use Rattle.fsm.specs.Calls.{withPolicy, tookIdle, acknowledged, tookRx};
-ghost use Rattle.machine.specs.declared.RxState.the-variants.{Empty, Completed};
 use capture::Samples;
 pub use event::DALI_RX_SAMPLE_BUF_LEN;
 pub use event::LINE_HELD_TICKS;
@@ -549,9 +548,7 @@ impl DaliBitbangPhy {
         ensures { λ r. ⌜ Says (r .answer) self ⌝ }
     {
         let was = self.core.told;
-        let bus = self.core.bus;
         let rx_state = was.rx_state;
-        let bus_state = bus.bus_state;
         if was.tx_yielded {
             let told = Told {
                 tx_pre_idle: was.tx_pre_idle,
@@ -578,6 +575,8 @@ impl DaliBitbangPhy {
                 answer: TxPollResult::Collision,
             };
         }
+        let bus = self.core.bus;
+        let bus_state = bus.bus_state;
         if bus_state.is_tx() {
             return Polled {
                 station: self,
@@ -665,42 +664,28 @@ impl DaliBitbangPhy {
     }
 
     pub fn acknowledge_rx_frame(self) -> DaliBitbangPhy
-        ensures { λ r. ⌜ r ≡ acknowledged (self .core .told .«rx_state») self ⌝ }
+        ensures { λ r. ⌜ r ≡ acknowledged self ⌝ }
     {
         let told = self.core.told;
         let rx_state = told.rx_state;
-        match rx_state {
-            RxState::Empty => self,
-            RxState::Receiving => self,
-            RxState::Completed => self.without_capture(),
+        if rx_state.is_completed() {
+            return self.with_core(in_rx_state(self.core, RxState::Empty));
         }
-    }
-
-    fn without_capture(self) -> DaliBitbangPhy
-        ensures { λ r. ⌜ r ≡ acknowledged Completed self ⌝ }
-    {
-        self.with_core(in_rx_state(self.core, RxState::Empty))
+        self
     }
 
     pub fn take_completed_rx_event(self) -> TookRx
-        ensures { λ r. ⌜ r ≡ tookRx (self .core .told .«rx_state») self ⌝ }
+        ensures { λ r. ⌜ r ≡ tookRx self ⌝ }
     {
         let told = self.core.told;
         let rx_state = told.rx_state;
-        match rx_state {
-            RxState::Empty => self.took_none(),
-            RxState::Receiving => self.took_none(),
-            RxState::Completed => TookRx {
-                station: self.without_capture(),
+        if rx_state.is_completed() {
+            return TookRx {
+                station: self.acknowledge_rx_frame(),
                 completed: true,
                 event: self.last_rx_event(),
-            },
+            };
         }
-    }
-
-    fn took_none(self) -> TookRx
-        ensures { λ r. ⌜ r ≡ tookRx Empty self ⌝ }
-    {
         TookRx {
             station: self,
             completed: false,

@@ -11,15 +11,13 @@ use lib.Seq.{getD-set-same, getD-set-other}
 use borrow.Author.Tests.{lt-ltb}
 use Rattle.laws.specs.Pick.{pick}
 use Rattle.laws.proofs.Picked.{on-true, cases}
-use Rattle.machine.specs.declared.RxState.{RxState}
-use Rattle.machine.specs.declared.RxState.the-variants.{Empty, Receiving, Completed}
 use Rattle.machine.specs.declared.Bus.{Bus}
 use Rattle.machine.specs.declared.Runs.{Runs}
 use Rattle.fsm.specs.declared.DaliBitbangPhy.{DaliBitbangPhy}
 use Rattle.fsm.specs.declared.Polled.{Polled}
 use Rattle.fsm.specs.Station.{newStation}
 use Rattle.fsm.specs.Ticking.{tickOf}
-use Rattle.machine.specs.States.{hears, isTx}
+use Rattle.machine.specs.States.{hears, isTx, isCompleted}
 use Rattle.fsm.specs.Polling.{polled}
 use Rattle.fsm.specs.Calls.{withPolicy, tookIdle, acknowledged, tookRx}
 use Rattle.bench_line.specs.declared.BenchLine.{BenchLine}
@@ -68,28 +66,23 @@ module _ (s : DaliBitbangPhy) where
       (λ _. cases P (isTx (s .core .bus .«bus_state»)) (λ _. as-it-was station.poll) (λ _. as-it-was station.poll)))
 
   -- by the call of that name, or by a take
-  acknowledge-keeps : (k : Call) → ((k ≡ station.take-rx → ⊥) → (k ≡ station.acknowledge → ⊥) → ⊥) → (mark : RxState) → Kept k s (acknowledged mark s)
+  acknowledge-keeps : (k : Call) → ((k ≡ station.take-rx → ⊥) → (k ≡ station.acknowledge → ⊥) → ⊥) → Kept k s (acknowledged s)
   unfolding acknowledged
-  acknowledge-keeps k is Empty = as-it-was k
-  acknowledge-keeps k is Receiving = as-it-was k
-  acknowledge-keeps k is Completed = record {
-    bus = refl;
-    runs = refl;
-    last = refl;
-    collisions = λ _. refl;
-    yields = λ _. refl;
-    marked = λ _. refl;
-    event = λ not-taken not-acknowledged. absurd (is not-taken not-acknowledged);
-  }
-
-  take-is : (mark : RxState) → tookRx mark s .station ≡ acknowledged mark s
-  unfolding tookRx acknowledged
-  take-is Empty = refl
-  take-is Receiving = refl
-  take-is Completed = refl
+  acknowledge-keeps k is =
+      cases (Kept k s) (isCompleted (s .core .told .«rx_state»))
+      (λ _. record {
+        bus = refl;
+        runs = refl;
+        last = refl;
+        collisions = λ _. refl;
+        yields = λ _. refl;
+        marked = λ _. refl;
+        event = λ not-taken not-acknowledged. absurd (is not-taken not-acknowledged);
+      })
+      (λ _. as-it-was k)
 
   pub kept : (k : Call) → isBetween k ≡ true → Kept k s (after k s)
-  unfolding after isBetween tookIdle withPolicy
+  unfolding after isBetween tookIdle tookRx withPolicy
   kept (station.tick high) e = absurd (false≢true e)
   kept (station.start-tx hb) e = absurd (false≢true e)
   kept (station.start-answer hb) e = absurd (false≢true e)
@@ -103,8 +96,8 @@ module _ (s : DaliBitbangPhy) where
     marked = λ other. absurd (other refl);
     event = λ _ _. refl;
   }
-  kept station.take-rx e = rw take-is (acknowledge-keeps station.take-rx (λ other _. other refl) (s .core .told .«rx_state»))
-  kept station.acknowledge e = acknowledge-keeps station.acknowledge (λ _ other. other refl) (s .core .told .«rx_state»)
+  kept station.take-rx e = acknowledge-keeps station.take-rx (λ other _. other refl)
+  kept station.acknowledge e = acknowledge-keeps station.acknowledge (λ _ other. other refl)
   kept (station.policy p) e = record { bus = refl; runs = refl; last = refl; collisions = λ _. refl; yields = λ _. refl; marked = λ _. refl; event = λ _ _. refl }
 
 -- ---- a station of a line of which some station is called

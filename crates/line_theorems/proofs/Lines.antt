@@ -12,8 +12,6 @@ use borrow.Author.Tests.{ltb-true, leb-true, eqb-false}
 use Rattle.laws.specs.Pick.{pick}
 use Rattle.laws.proofs.Picked.{cases}
 use Rattle.halfbits.specs.declared.HalfBitBuffer.{HalfBitBuffer}
-use Rattle.machine.specs.declared.RxState.{RxState}
-use Rattle.machine.specs.declared.RxState.the-variants.{Empty, Receiving, Completed}
 use Rattle.machine.specs.Starting.{loaded}
 use Rattle.fsm.specs.declared.DaliBitbangPhy.{DaliBitbangPhy}
 use Rattle.fsm.specs.declared.Started.{Started}
@@ -22,7 +20,7 @@ use Rattle.fsm.specs.declared.Polled.{Polled}
 use Rattle.fsm.specs.Station.{newCore, newStation}
 use Rattle.fsm.specs.Ticking.{tickOf}
 use Rattle.fsm.specs.Starting.{lengthFits, startedWith, loadedWith, started, startTx, startAnswer}
-use Rattle.machine.specs.States.{isIdle, hears, isTx}
+use Rattle.machine.specs.States.{isIdle, hears, isTx, isCompleted}
 use Rattle.fsm.specs.Polling.{polled}
 use Rattle.fsm.specs.Calls.{withPolicy, tookIdle, acknowledged, tookRx}
 use Rattle.reached.specs.Calls as station
@@ -67,27 +65,21 @@ module _ (s : DaliBitbangPhy) where
       cases P (s .core .told .«tx_yielded») (λ _. refl)
       (λ _. cases P (not (eqb (s .core .told .«tx_collision») 0)) (λ _. refl) (λ _. cases P (isTx (s .core .bus .«bus_state»)) (λ _. refl) (λ _. refl)))
 
-  take-drives : (mark : RxState) → drives (tookRx mark s .station) ≡ drives s
-  unfolding tookRx acknowledged
-  take-drives Empty = refl
-  take-drives Receiving = refl
-  take-drives Completed = refl
-
-  acknowledge-drives : (mark : RxState) → drives (acknowledged mark s) ≡ drives s
+  acknowledge-drives : drives (acknowledged s) ≡ drives s
   unfolding acknowledged
-  acknowledge-drives Empty = refl
-  acknowledge-drives Receiving = refl
-  acknowledge-drives Completed = refl
+  acknowledge-drives =
+      let P : DaliBitbangPhy → Type 0 = λ (t : DaliBitbangPhy). drives t ≡ drives s in
+      cases P (isCompleted (s .core .told .«rx_state»)) (λ _. refl) (λ _. refl)
 
   drives-as-before : (c : Call) → isTick c ≡ false → drives (after c s) ≡ drives s
-  unfolding after startTx startAnswer tookIdle withPolicy
+  unfolding after startTx startAnswer tookIdle tookRx withPolicy
   drives-as-before (station.tick high) e = absurd (true≢false e)
   drives-as-before (station.start-tx hb) e = start-drives (isIdle (s .core .bus .«bus_state»)) hb false
   drives-as-before (station.start-answer hb) e = start-drives (hears (s .core .bus .«bus_state»)) hb true
   drives-as-before station.poll e = poll-drives
   drives-as-before station.take-idle e = refl
-  drives-as-before station.take-rx e = take-drives (s .core .told .«rx_state»)
-  drives-as-before station.acknowledge e = acknowledge-drives (s .core .told .«rx_state»)
+  drives-as-before station.take-rx e = acknowledge-drives
+  drives-as-before station.acknowledge e = acknowledge-drives
   drives-as-before (station.policy p) e = refl
 
 -- ---- places that a tick reaches, and places that it does not

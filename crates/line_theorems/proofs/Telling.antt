@@ -7,23 +7,18 @@ use lib.Dec.{eqb}
 use borrow.Author.Tests.{eqb-true}
 use Rattle.laws.specs.Pick.{pick}
 use Rattle.laws.proofs.Picked.{cases}
-use Rattle.event.specs.Event.{eventOf}
 use Rattle.halfbits.specs.Frame.{Frame}
 use Rattle.laws.proofs.Joined.{is}
-use Rattle.capture.specs.Samples.{bytesOf}
 use Rattle.machine.specs.declared.BusState.{BusState}
 use Rattle.machine.specs.declared.BusState.the-variants as bus
-use Rattle.machine.specs.declared.RxState.{RxState}
-use Rattle.machine.specs.declared.RxState.the-variants.{Empty, Receiving, Completed}
 use Rattle.machine.specs.declared.Bus.{Bus}
 use Rattle.machine.specs.declared.Told.{Told}
 use Rattle.machine.specs.Runs.{heardOf}
 use Rattle.machine.specs.Idle.{idleTick, silent, fell}
 use Rattle.fsm.specs.declared.DaliBitbangPhy.{DaliBitbangPhy}
-use Rattle.fsm.specs.declared.LastRx.{LastRx}
 use Rattle.fsm.specs.declared.Polled.{Polled}
 use Rattle.fsm.specs.declared.TxPollResult.the-variants.{Ok, Collision}
-use Rattle.machine.specs.States.{hears, isTx}
+use Rattle.machine.specs.States.{hears, isTx, isCompleted}
 use Rattle.fsm.specs.Ticking.{actOf, tickOf}
 use Rattle.fsm.specs.Polling.{polled}
 use Rattle.fsm.specs.Calls.{tookIdle, tookRx}
@@ -245,22 +240,13 @@ pub record Event (frame : Frame) (s : DaliBitbangPhy) : Type 0 where
   pub ready : IsReady s
   pub read : ReadAs frame (taken s)
 
--- its mark and its bytes are all that counts
-as-taken : (mark : RxState) (s s′ : DaliBitbangPhy) → s′ .«last_rx» ≡ s .«last_rx»
-    → (tookRx mark s′ .completed ≡ tookRx mark s .completed) × (tookRx mark s′ .event ≡ tookRx mark s .event)
-unfolding tookRx
-as-taken Empty s s′ e = (refl, refl)
-as-taken Receiving s s′ e = (refl, refl)
-as-taken Completed s s′ e = (refl, ap (λ (l : LastRx). eventOf (bytesOf (l .samples)) (l .«sample_count») (l .«pre_idle_ticks»)) e)
-
 module _ {frame : Frame} (s : DaliBitbangPhy) where
+  -- its mark and its bytes are all that counts
   same-event : (s′ : DaliBitbangPhy) → s′ .core .told .«rx_state» ≡ s .core .told .«rx_state» → s′ .«last_rx» ≡ s .«last_rx» → Event frame s → Event frame s′
+  unfolding tookRx
   same-event s′ mark last h =
-      let (ready, event) = as-taken (s .core .told .«rx_state») s s′ last in
-      record {
-        ready = ap (λ m. tookRx m s′ .completed) mark ∙ ready ∙ h .ready;
-        read = subst (ReadAs frame) (sym (ap (λ m. tookRx m s′ .event) mark ∙ event)) (h .read);
-      }
+      let same : taken s′ ≡ taken s = rw (mark, last) refl in
+      record { ready = ap isCompleted mark ∙ h .ready; read = subst (ReadAs frame) (sym same) (h .read) }
 
   event-ticks : IsIdle s → Event frame s → Event frame (tickOf s true)
   unfolding tickOf actOf idleTick silent fell heardOf pick

@@ -36,7 +36,7 @@ abbrev pub takeIdleOn : BenchLine → ℕ → LineTookIdle
 takeIdleOn l number = tookIdleAt l number (tookIdle (stationAt l number))
 
 abbrev pub takeRxOn : BenchLine → ℕ → LineTookRx
-takeRxOn l number = let s = stationAt l number in tookRxAt l number (tookRx (s .core .told .«rx_state») s)
+takeRxOn l number = tookRxAt l number (tookRx (stationAt l number))
 
 -- the line that a call leaves
 unfoldable pub lineAfter : LineCall → BenchLine → BenchLine
@@ -46,7 +46,7 @@ lineAfter (start-answer number hb) l = startedAt l number (startAnswer (stationA
 lineAfter (poll number) l = pollOn l number .line
 lineAfter (take-idle number) l = takeIdleOn l number .line
 lineAfter (take-rx number) l = takeRxOn l number .line
-lineAfter (acknowledge number) l = let s = stationAt l number in changedAt l number (acknowledged (s .core .told .«rx_state») s) .line
+lineAfter (acknowledge number) l = changedAt l number (acknowledged (stationAt l number)) .line
 lineAfter (policy number p) l = changedAt l number (withPolicy (stationAt l number) p) .line
 
 -- any calls in any order, from a new line of one to four stations

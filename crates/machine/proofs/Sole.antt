@@ -4,6 +4,7 @@ use Rattle.laws.proofs.Only.{Only, named}
 use Rattle.machine.proofs.BusState.is_idle.Reads as is-idle
 use Rattle.machine.proofs.BusState.is_idle_or_rx.Reads as is-idle-or-rx
 use Rattle.machine.proofs.BusState.is_tx.Reads as is-tx
+use Rattle.machine.proofs.RxState.is_completed.Reads as is-completed
 use Rattle.machine.proofs.saturating_inc16.Reads as saturating-inc16
 use Rattle.machine.proofs.saturating_inc8.Reads as saturating-inc8
 use Rattle.machine.proofs.wrapping_inc8.Reads as wrapping-inc8
@@ -24,6 +25,9 @@ is-idle-or-rx-sole κs a x = named _
 
 pub is-tx-sole : (κs : _) (a : _) (x : _) → Only (λ r. is-tx.Post κs a r x)
 is-tx-sole κs a x = named _
+
+pub is-completed-sole : (κs : _) (a : _) (x : _) → Only (λ r. is-completed.Post κs a r x)
+is-completed-sole κs a x = named _
 
 pub saturating-inc16-sole : (κs : _) (a : _) (x : _) → Only (λ r. saturating-inc16.Post κs a r x)
 saturating-inc16-sole κs a x = named _

@@ -2,6 +2,8 @@
 use mathlib.Core.Bool.{Bool, true, false}
 use Rattle.machine.specs.declared.BusState.{BusState}
 use Rattle.machine.specs.declared.BusState.the-variants.{Idle, Rx, Tx, CollisionTx}
+use Rattle.machine.specs.declared.RxState.{RxState}
+use Rattle.machine.specs.declared.RxState.the-variants.{Empty, Receiving, Completed}
 
 unfoldable pub isIdle : BusState → Bool
 isIdle Idle = true
@@ -27,3 +29,9 @@ isRx Idle = false
 isRx Rx = true
 isRx Tx = false
 isRx CollisionTx = false
+
+-- an event is ready
+unfoldable pub isCompleted : RxState → Bool
+isCompleted Empty = false
+isCompleted Receiving = false
+isCompleted Completed = true

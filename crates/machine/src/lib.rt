@@ -4,7 +4,7 @@ ghost use mathlib.Core.Path.{_≡_};
 ghost use Prim.Native.Nat.{_+_, _-_, _%_, _<_, min};
 ghost use Rattle.machine.specs.Constants.{publicConstants};
 ghost use Rattle.machine.specs.Numbers.{busStateNumber, rxStateNumber, collisionPolicyNumber};
-ghost use Rattle.machine.specs.States.{isIdle, hears, isTx};
+ghost use Rattle.machine.specs.States.{isIdle, hears, isTx, isCompleted};
 ghost use Rattle.machine.specs.Runs.{heardOf};
 ghost use Rattle.machine.specs.Idle.{entered, silent, fell, idleTick};
 ghost use Rattle.machine.specs.Sending.{halfBitsIn, storeOf, releasesAt, watchesOf, clashOf, armedStep, armed, yielded, clashed, held, driven, stepped, txTick};
@@ -141,6 +141,18 @@ impl BusState {
             BusState::Rx => false,
             BusState::Tx => true,
             BusState::CollisionTx => false,
+        }
+    }
+}
+
+impl RxState {
+    pub fn is_completed(self) -> bool
+        ensures { λ r. ⌜ r ≡ isCompleted self ⌝ }
+    {
+        match self {
+            RxState::Empty => false,
+            RxState::Receiving => false,
+            RxState::Completed => true,
         }
     }
 }

@@ -6,14 +6,12 @@ use Rattle.laws.proofs.Picked.{on-false, cases}
 use Rattle.halfbits.specs.declared.HalfBitBuffer.{HalfBitBuffer}
 use Rattle.machine.specs.declared.BusState.{BusState}
 use Rattle.machine.specs.declared.BusState.the-variants as bus
-use Rattle.machine.specs.declared.RxState.{RxState}
-use Rattle.machine.specs.declared.RxState.the-variants.{Empty, Receiving, Completed}
 use Rattle.fsm.specs.declared.DaliBitbangPhy.{DaliBitbangPhy}
 use Rattle.fsm.specs.declared.Started.{Started}
 use Rattle.fsm.specs.declared.StartAnswer.the-variants as start
 use Rattle.fsm.specs.declared.Polled.{Polled}
 use Rattle.fsm.specs.Starting.{startedWith, started, startTx, startAnswer}
-use Rattle.machine.specs.States.{isIdle, hears, isTx}
+use Rattle.machine.specs.States.{isIdle, hears, isTx, isCompleted}
 use Rattle.fsm.specs.Polling.{polled}
 use Rattle.fsm.specs.Calls.{withPolicy, tookIdle, acknowledged, tookRx}
 use Rattle.reached.specs.Calls.{Call, tick, start-tx, start-answer, poll, take-idle, take-rx, acknowledge, policy, after, isBetween}
@@ -53,27 +51,22 @@ polled-same s =
     (λ _. record { runs = refl; bus = refl; rx = refl; tx = refl; bytes = refl; halfbits = refl; last = refl })
     (λ _. cases P (isTx (s .core .bus .«bus_state»)) (λ _. itself s) (λ _. itself s)))
 
-acknowledged-same : (mark : RxState) (s : DaliBitbangPhy) → Same s (acknowledged mark s)
+acknowledged-same : (s : DaliBitbangPhy) → Same s (acknowledged s)
 unfolding acknowledged
-acknowledged-same Empty s = itself s
-acknowledged-same Receiving s = itself s
-acknowledged-same Completed s = record { runs = refl; bus = refl; rx = refl; tx = refl; bytes = refl; halfbits = refl; last = refl }
-
-took-same : (mark : RxState) (s : DaliBitbangPhy) → Same s (tookRx mark s .station)
-unfolding tookRx
-took-same Empty s = itself s
-took-same Receiving s = itself s
-took-same Completed s = acknowledged-same Completed s
+acknowledged-same s =
+    cases (Same s) (isCompleted (s .core .told .«rx_state»))
+    (λ _. record { runs = refl; bus = refl; rx = refl; tx = refl; bytes = refl; halfbits = refl; last = refl })
+    (λ _. itself s)
 
 pub between-same : (c : Call) (s : DaliBitbangPhy) → isBetween c ≡ true → Same s (after c s)
-unfolding isBetween after tookIdle withPolicy
+unfolding isBetween after tookIdle tookRx withPolicy
 between-same (tick high) s h = absurd (false≢true h)
 between-same (start-tx hb) s h = absurd (false≢true h)
 between-same (start-answer hb) s h = absurd (false≢true h)
 between-same poll s h = polled-same s
 between-same take-idle s h = record { runs = refl; bus = refl; rx = refl; tx = refl; bytes = refl; halfbits = refl; last = refl }
-between-same take-rx s h = took-same (s .core .told .«rx_state») s
-between-same acknowledge s h = acknowledged-same (s .core .told .«rx_state») s
+between-same take-rx s h = acknowledged-same s
+between-same acknowledge s h = acknowledged-same s
 between-same (policy p) s h = record { runs = refl; bus = refl; rx = refl; tx = refl; bytes = refl; halfbits = refl; last = refl }
 
 -- ---- starts that are refused

@@ -29,7 +29,7 @@ use Rattle.fsm.specs.declared.StartAnswer.the-variants.{Busy}
 use Rattle.fsm.specs.declared.Polled.{Polled}
 use Rattle.fsm.specs.Station.{newCore, newStation, withCore}
 use Rattle.fsm.specs.Ticking.{actOf, tickOf}
-use Rattle.machine.specs.States.{isIdle, hears, isTx}
+use Rattle.machine.specs.States.{isIdle, hears, isTx, isCompleted}
 use Rattle.fsm.specs.Starting.{lengthFits, startedWith, loadedWith, started, startTx, startAnswer}
 use Rattle.fsm.specs.Polling.{polled}
 use Rattle.fsm.specs.Calls.{withPolicy, tookIdle, acknowledged, tookRx}
@@ -52,12 +52,14 @@ unfolding isReceiving
 not-receiving e = false≢true (sym (ap isReceiving e))
 
 not-empty : Empty ≡ Completed → ⊥
+unfolding isCompleted
 not-empty e = false≢true (ap isCompleted e)
-  where
-    isCompleted : RxState → Bool
-    isCompleted Empty = false
-    isCompleted Receiving = false
-    isCompleted Completed = true
+
+ready : (mark : RxState) → isCompleted mark ≡ true → mark ≡ Completed
+unfolding isCompleted
+ready Empty e = absurd (false≢true e)
+ready Receiving e = absurd (false≢true e)
+ready Completed e = refl
 
 idle-mark : (c : Core) (high : Bool) → idleTick c high .told .«rx_state» ≡ Completed → c .told .«rx_state» ≡ Completed
 unfolding idleTick silent fell entered
@@ -134,27 +136,21 @@ module _ (s : DaliBitbangPhy) (w : Whole s) where
   unfolding tookIdle
   idle-whole = with-core s _ w (telling-good (s .core) (w .core) _ _ _ (omega arith) (λ e. absurd (false≢true e)) (λ m. m)) (λ m. m)
 
-  ack-whole : (mark : RxState) → s .core .told .«rx_state» ≡ mark → Whole (acknowledged mark s)
+  ack-whole : Whole (acknowledged s)
   unfolding acknowledged
-  ack-whole Empty e = w
-  ack-whole Receiving e = w
-  ack-whole Completed e = with-core s _ w (taken-good (s .core) (w .core) e) (λ m. e)
-
-  take-whole : (mark : RxState) → s .core .told .«rx_state» ≡ mark → Whole (tookRx mark s .station)
-  unfolding tookRx
-  take-whole Empty e = w
-  take-whole Receiving e = w
-  take-whole Completed e = ack-whole Completed e
+  ack-whole =
+      let mark = s .core .told .«rx_state» in
+      cases Whole (isCompleted mark) (λ t. let e = ready mark t in with-core s _ w (taken-good (s .core) (w .core) e) (λ m. e)) (λ _. w)
 
   call-whole : (c : Call) → Whole (after c s)
-  unfolding after startTx startAnswer withPolicy
+  unfolding after startTx startAnswer tookRx withPolicy
   call-whole (tick high) = tick-whole s w high
   call-whole (start-tx hb) = start-whole (isIdle (s .core .bus .«bus_state»)) hb false
   call-whole (start-answer hb) = start-whole (hears (s .core .bus .«bus_state»)) hb true
   call-whole poll = poll-whole
   call-whole take-idle = idle-whole
-  call-whole take-rx = take-whole (s .core .told .«rx_state») refl
-  call-whole acknowledge = ack-whole (s .core .told .«rx_state») refl
+  call-whole take-rx = ack-whole
+  call-whole acknowledge = ack-whole
   call-whole (policy p) = with-core s _ w (record { any = w .core .any; state = w .core .state }) (λ m. m)
 
 -- ---- from a new station on

@@ -29,8 +29,8 @@ after (start-tx hb) s = startTx s hb .station
 after (start-answer hb) s = startAnswer s hb .station
 after poll s = polled s .station
 after take-idle s = tookIdle s .station
-after take-rx s = tookRx (s .core .told .«rx_state») s .station
-after acknowledge s = acknowledged (s .core .told .«rx_state») s
+after take-rx s = tookRx s .station
+after acknowledge s = acknowledged s
 after (policy p) s = withPolicy s p
 
 -- the station after these, one after the other

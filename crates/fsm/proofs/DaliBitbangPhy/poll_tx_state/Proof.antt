@@ -28,11 +28,11 @@ is-tx-requires c κs = search needs
 
 returns-3 : tie.Need-returns-3
 unfolding polled
-returns-3 c = told _ (simp (on-true (c .if3 .taken), ← c .before .is-tx .ensures, on-false (ap not (eq-eqb _ _ (c .before .before .if2 .left))), on-false (c .before .before .before .before .if1 .left)))
+returns-3 c = told _ (simp (on-true (c .if3 .taken), ← c .before .is-tx .ensures, on-false (ap not (eq-eqb _ _ (c .before .before .before .if2 .left))), on-false (c .before .before .before .before .before .if1 .left)))
 
 returns-4 : tie.Need-returns-4
 unfolding polled
-returns-4 c = told _ (simp (on-false (c .if3 .left), ← c .before .is-tx .ensures, on-false (ap not (eq-eqb _ _ (c .before .before .if2 .left))), on-false (c .before .before .before .before .if1 .left)))
+returns-4 c = told _ (simp (on-false (c .if3 .left), ← c .before .is-tx .ensures, on-false (ap not (eq-eqb _ _ (c .before .before .before .if2 .left))), on-false (c .before .before .before .before .before .if1 .left)))
 
 pub poll-tx-state-spec : {M : Type 1} → statement M
 poll-tx-state-spec =
