@@ -585,26 +585,24 @@ impl Core {
     pub fn tick_tx(self, tx_hb: TxHb, bus_is_high: bool) -> Core
         ensures { λ r. ⌜ r ≡ txTick self «tx_hb» «bus_is_high» ⌝ }
     {
-        let tx = self.tx;
         let policy = self.collision_policy;
-        let count = tx.tx_hb_cnt;
         let len = tx_hb.tx_hb_len;
-        if tx.tx_armed != 0 {
+        if self.tx.tx_armed != 0 {
             return self.tick_tx_armed(bus_is_high);
         }
-        if len <= count as u64 {
+        if len <= self.tx.tx_hb_cnt as u64 {
             return self.set_bus_idle();
         }
-        if tx.collision_detected(policy, len, bus_is_high) {
+        if self.tx.collision_detected(policy, len, bus_is_high) {
             return self.enter_collision_tx();
         }
-        if tx.tx_sp_cnt != 0 {
+        if self.tx.tx_sp_cnt != 0 {
             return self.hold_half_bit();
         }
-        if STORED_HALF_BITS <= count {
+        if STORED_HALF_BITS <= self.tx.tx_hb_cnt {
             return self.set_bus_idle();
         }
-        self.drive_half_bit(releases(tx_hb, count))
+        self.drive_half_bit(releases(tx_hb, self.tx.tx_hb_cnt))
     }
 
     // IEC 62386-101, 9.1.4: whoever finds the line high after its own break may go first.
