@@ -13,9 +13,9 @@ use Rattle.fsm.specs.declared.DaliBitbangPhy.{DaliBitbangPhy}
 use Rattle.fsm.specs.declared.Polled.{Polled}
 use Rattle.fsm.specs.Ticking.{tickOf}
 use Rattle.fsm.specs.Starting.{startTx, startAnswer}
-use Rattle.machine.specs.States.{isIdle, hears, isTx, isCompleted}
+use Rattle.machine.specs.States.{isIdle, hears, isTx}
 use Rattle.fsm.specs.Polling.{polled}
-use Rattle.fsm.specs.Calls.{withPolicy, tookIdle, acknowledged, tookRx}
+use Rattle.fsm.specs.Calls.{withPolicy, tookIdle, hasEvent, acknowledged, tookRx}
 use Rattle.reached.specs.Calls.{Call, tick, start-tx, start-answer, poll, take-idle, take-rx, acknowledge, policy, after, afterAll, isBetween}
 use Rattle.reached.specs.Ticks.{IsSending, drives, heard, alone}
 use Rattle.reached.proofs.Between.{Same, itself, then, between-same, tx-refused, answer-refused, refused-keeps}
@@ -39,7 +39,7 @@ module _ (s : DaliBitbangPhy) where
 
   acknowledged-clear : Clear s → Clear (acknowledged s)
   unfolding acknowledged
-  acknowledged-clear clear = cases Clear (isCompleted (markOf s)) (λ _. clear) (λ _. clear)
+  acknowledged-clear clear = cases Clear (hasEvent s) (λ _. clear) (λ _. clear)
 
   still-clear : (c : Call) → isBetween c ≡ true → Clear s → Clear (after c s)
   unfolding after isBetween tookIdle tookRx withPolicy

@@ -19,9 +19,8 @@ use Rattle.event.specs.declared.RxCompletedEvent.{RxCompletedEvent}
 use Rattle.event.specs.Event.{eventOf, newEvent}
 use Rattle.halfbits.specs.Frame.{Frame, bits-8, bits-16, bits-24, bytesOf, frameBits, AreBytes}
 use Rattle.halfbits.specs.Wave.{levelAt}
-use Rattle.machine.specs.States.{isCompleted}
 use Rattle.fsm.specs.declared.DaliBitbangPhy.{DaliBitbangPhy}
-use Rattle.fsm.specs.Calls.{tookRx}
+use Rattle.fsm.specs.Calls.{hasEvent, tookRx}
 use Rattle.rx_decode.specs.declared.BackwardByte.the-variants.{Byte}
 use Rattle.rx_decode.specs.Reading.{sniffedOf, foundOr, searchedIn, byteIn}
 use Rattle.frames.specs.ReadAs.{FoundInOneStep, frameWeights, frameScore, kindOf, ReadAs, HasFrame}
@@ -50,7 +49,7 @@ fresh : (s : DaliBitbangPhy) → tookRx s .event .«isr_decode» ≡ NotDecoded
 unfolding tookRx newEvent eventOf
 fresh s =
     let P : RxCompletedEvent → Type 0 = λ (ev : RxCompletedEvent). ev .«isr_decode» ≡ NotDecoded in
-    cases P (isCompleted (s .core .told .«rx_state»)) (λ _. refl) (λ _. refl)
+    cases P (hasEvent s) (λ _. refl) (λ _. refl)
 
 abbrev decode : Frame → PhaseDecode
 decode frame = decodeOf (pos 0) (bits (frameWeights (frameBits frame)))

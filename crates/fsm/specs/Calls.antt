@@ -1,5 +1,5 @@
 -- The other calls of a station that change it. Assumes nothing.
-use mathlib.Core.Bool.{false}
+use mathlib.Core.Bool.{Bool, false}
 use Rattle.laws.specs.Pick.{pick}
 use Rattle.event.specs.Event.{newEvent}
 use Rattle.machine.specs.Fields as core
@@ -21,14 +21,18 @@ tookIdle s = record {
   idle = s .core .told .«tx_idle_after_break»;
 }
 
--- A capture that is ready is marked as taken; its bytes stay. Anything else is left as it is.
+-- a capture is complete, and was not taken yet
+abbrev pub hasEvent : DaliBitbangPhy → Bool
+hasEvent s = isCompleted (s .core .told .«rx_state»)
+
+-- Its mark is cleared; its bytes stay. Where there is none, nothing changes.
 unfoldable pub acknowledged : DaliBitbangPhy → DaliBitbangPhy
-acknowledged s = pick (isCompleted (s .core .told .«rx_state»)) (withCore s (core.withRxState (s .core) Empty)) s
+acknowledged s = pick (hasEvent s) (withCore s (core.withRxState (s .core) Empty)) s
 
 -- The event, and it is acknowledged; or none, which a fresh event stands for.
 unfoldable pub tookRx : DaliBitbangPhy → TookRx
 tookRx s = record {
   station = acknowledged s;
-  completed = isCompleted (s .core .told .«rx_state»);
-  event = pick (isCompleted (s .core .told .«rx_state»)) (lastEvent s) newEvent;
+  completed = hasEvent s;
+  event = pick (hasEvent s) (lastEvent s) newEvent;
 }

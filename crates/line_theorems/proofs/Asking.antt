@@ -17,9 +17,9 @@ use Rattle.fsm.specs.declared.DaliBitbangPhy.{DaliBitbangPhy}
 use Rattle.fsm.specs.declared.Polled.{Polled}
 use Rattle.fsm.specs.Station.{newStation}
 use Rattle.fsm.specs.Ticking.{tickOf}
-use Rattle.machine.specs.States.{hears, isTx, isCompleted}
+use Rattle.machine.specs.States.{hears, isTx}
 use Rattle.fsm.specs.Polling.{polled}
-use Rattle.fsm.specs.Calls.{withPolicy, tookIdle, acknowledged, tookRx}
+use Rattle.fsm.specs.Calls.{withPolicy, tookIdle, hasEvent, acknowledged, tookRx}
 use Rattle.bench_line.specs.declared.BenchLine.{BenchLine}
 use Rattle.bench_line.specs.declared.LineChanged.{LineChanged}
 use Rattle.bench_line.specs.declared.LineStarted.{LineStarted}
@@ -69,7 +69,7 @@ module _ (s : DaliBitbangPhy) where
   acknowledge-keeps : (k : Call) → ((k ≡ station.take-rx → ⊥) → (k ≡ station.acknowledge → ⊥) → ⊥) → Kept k s (acknowledged s)
   unfolding acknowledged
   acknowledge-keeps k is =
-      cases (Kept k s) (isCompleted (s .core .told .«rx_state»))
+      cases (Kept k s) (hasEvent s)
       (λ _. record {
         bus = refl;
         runs = refl;

@@ -20,9 +20,9 @@ use Rattle.fsm.specs.declared.Polled.{Polled}
 use Rattle.fsm.specs.Station.{newCore, newStation}
 use Rattle.fsm.specs.Ticking.{tickOf}
 use Rattle.fsm.specs.Starting.{lengthFits, startedWith, loadedWith, started, startTx, startAnswer}
-use Rattle.machine.specs.States.{isIdle, hears, isTx, isCompleted}
+use Rattle.machine.specs.States.{isIdle, hears, isTx}
 use Rattle.fsm.specs.Polling.{polled}
-use Rattle.fsm.specs.Calls.{withPolicy, tookIdle, acknowledged, tookRx}
+use Rattle.fsm.specs.Calls.{withPolicy, tookIdle, hasEvent, acknowledged, tookRx}
 use Rattle.reached.specs.Calls as station
 use Rattle.reached.specs.Calls.{Call, after, Reached}
 use Rattle.bench_line.specs.declared.BenchLine.{BenchLine}
@@ -69,7 +69,7 @@ module _ (s : DaliBitbangPhy) where
   unfolding acknowledged
   acknowledge-drives =
       let P : DaliBitbangPhy → Type 0 = λ (t : DaliBitbangPhy). drives t ≡ drives s in
-      cases P (isCompleted (s .core .told .«rx_state»)) (λ _. refl) (λ _. refl)
+      cases P (hasEvent s) (λ _. refl) (λ _. refl)
 
   drives-as-before : (c : Call) → isTick c ≡ false → drives (after c s) ≡ drives s
   unfolding after startTx startAnswer tookIdle tookRx withPolicy

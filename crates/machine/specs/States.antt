@@ -30,7 +30,7 @@ isRx Rx = true
 isRx Tx = false
 isRx CollisionTx = false
 
--- an event is ready
+-- the capture has ended, and waits to be taken
 unfoldable pub isCompleted : RxState → Bool
 isCompleted Empty = false
 isCompleted Receiving = false

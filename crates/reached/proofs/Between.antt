@@ -11,9 +11,9 @@ use Rattle.fsm.specs.declared.Started.{Started}
 use Rattle.fsm.specs.declared.StartAnswer.the-variants as start
 use Rattle.fsm.specs.declared.Polled.{Polled}
 use Rattle.fsm.specs.Starting.{startedWith, started, startTx, startAnswer}
-use Rattle.machine.specs.States.{isIdle, hears, isTx, isCompleted}
+use Rattle.machine.specs.States.{isIdle, hears, isTx}
 use Rattle.fsm.specs.Polling.{polled}
-use Rattle.fsm.specs.Calls.{withPolicy, tookIdle, acknowledged, tookRx}
+use Rattle.fsm.specs.Calls.{withPolicy, tookIdle, hasEvent, acknowledged, tookRx}
 use Rattle.reached.specs.Calls.{Call, tick, start-tx, start-answer, poll, take-idle, take-rx, acknowledge, policy, after, isBetween}
 
 -- all of a station but its marks and its policy
@@ -54,7 +54,7 @@ polled-same s =
 acknowledged-same : (s : DaliBitbangPhy) → Same s (acknowledged s)
 unfolding acknowledged
 acknowledged-same s =
-    cases (Same s) (isCompleted (s .core .told .«rx_state»))
+    cases (Same s) (hasEvent s)
     (λ _. record { runs = refl; bus = refl; rx = refl; tx = refl; bytes = refl; halfbits = refl; last = refl })
     (λ _. itself s)
 

@@ -32,7 +32,7 @@ use Rattle.fsm.specs.Ticking.{actOf, tickOf}
 use Rattle.machine.specs.States.{isIdle, hears, isTx, isCompleted}
 use Rattle.fsm.specs.Starting.{lengthFits, startedWith, loadedWith, started, startTx, startAnswer}
 use Rattle.fsm.specs.Polling.{polled}
-use Rattle.fsm.specs.Calls.{withPolicy, tookIdle, acknowledged, tookRx}
+use Rattle.fsm.specs.Calls.{withPolicy, tookIdle, hasEvent, acknowledged, tookRx}
 use Rattle.reached.specs.Calls.{Call, tick, start-tx, start-answer, poll, take-idle, take-rx, acknowledge, policy, after, Reached, new, called}
 use Rattle.reached.specs.Invariants.{isReceiving}
 use Rattle.reached.proofs.Cores.{Good, In, rxCore, coreAfter, act-good, whole, loaded-good, telling-good, taken-good}
@@ -139,8 +139,9 @@ module _ (s : DaliBitbangPhy) (w : Whole s) where
   ack-whole : Whole (acknowledged s)
   unfolding acknowledged
   ack-whole =
-      let mark = s .core .told .«rx_state» in
-      cases Whole (isCompleted mark) (λ t. let e = ready mark t in with-core s _ w (taken-good (s .core) (w .core) e) (λ m. e)) (λ _. w)
+      cases Whole (hasEvent s)
+      (λ t. let e = ready (s .core .told .«rx_state») t in with-core s _ w (taken-good (s .core) (w .core) e) (λ m. e))
+      (λ _. w)
 
   call-whole : (c : Call) → Whole (after c s)
   unfolding after startTx startAnswer tookRx withPolicy
