@@ -484,8 +484,7 @@ impl DaliBitbangPhy {
         ensures { λ r. ⌜ r ≡ startTx self halfbits ⌝ }
         ensures { λ r. ⌜ numberOf (r .answer) ≡ startNumber (isIdle (self .core .bus .«bus_state»)) (lengthFits (halfbits .length)) ⌝ }
     {
-        let bus = self.core.bus;
-        let bus_state = bus.bus_state;
+        let bus_state = self.bus_state();
         if bus_state.is_idle() {
             return self.load_tx(halfbits, false);
         }
@@ -500,8 +499,7 @@ impl DaliBitbangPhy {
         ensures { λ r. ⌜ r ≡ startAnswer self halfbits ⌝ }
         ensures { λ r. ⌜ numberOf (r .answer) ≡ startNumber (hears (self .core .bus .«bus_state»)) (lengthFits (halfbits .length)) ⌝ }
     {
-        let bus = self.core.bus;
-        let bus_state = bus.bus_state;
+        let bus_state = self.bus_state();
         if bus_state.is_idle_or_rx() {
             return self.load_tx(halfbits, true);
         }
@@ -575,8 +573,7 @@ impl DaliBitbangPhy {
                 answer: TxPollResult::Collision,
             };
         }
-        let bus = self.core.bus;
-        let bus_state = bus.bus_state;
+        let bus_state = self.bus_state();
         if bus_state.is_tx() {
             return Polled {
                 station: self,
@@ -666,8 +663,7 @@ impl DaliBitbangPhy {
     pub fn acknowledge_rx_frame(self) -> DaliBitbangPhy
         ensures { λ r. ⌜ r ≡ acknowledged self ⌝ }
     {
-        let told = self.core.told;
-        let rx_state = told.rx_state;
+        let rx_state = self.rx_state();
         if rx_state.is_completed() {
             return self.with_core(in_rx_state(self.core, RxState::Empty));
         }
@@ -677,8 +673,7 @@ impl DaliBitbangPhy {
     pub fn take_completed_rx_event(self) -> TookRx
         ensures { λ r. ⌜ r ≡ tookRx self ⌝ }
     {
-        let told = self.core.told;
-        let rx_state = told.rx_state;
+        let rx_state = self.rx_state();
         if rx_state.is_completed() {
             return TookRx {
                 station: self.acknowledge_rx_frame(),

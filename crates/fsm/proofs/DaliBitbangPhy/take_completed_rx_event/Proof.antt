@@ -5,6 +5,9 @@ use borrow.Author.Needs.{needs}
 use Rattle.fsm.proofs.DaliBitbangPhy.take_completed_rx_event.Statement.{statement}
 use Rattle.fsm.proofs.DaliBitbangPhy.take_completed_rx_event.Tie as tie
 
+rx-state-requires : tie.Need-rx-state-requires
+rx-state-requires c κs = search needs
+
 is-completed-requires : tie.Need-is-completed-requires
 is-completed-requires c κs = search needs
 
@@ -16,20 +19,20 @@ last-rx-event-requires c κs = search needs
 
 returns : tie.Need-returns
 unfolding tookRx pick
-returns c = simp (← c .last-rx-event .ensures, ← c .before .acknowledge-rx-frame .ensures, ← c .before .before .before .is-completed .ensures, c .before .before .if1 .taken)
+returns c = simp (← c .last-rx-event .ensures, ← c .before .acknowledge-rx-frame .ensures, ← c .before .before .before .is-completed .ensures, ← c .before .before .before .before .rx-state .ensures, c .before .before .if1 .taken)
 
 new-requires : tie.Need-new-requires
 new-requires c κs = search needs
 
 returns-2 : tie.Need-returns-2
 unfolding tookRx acknowledged pick
-returns-2 c = simp (← c .new .ensures, ← c .before .before .is-completed .ensures, c .before .if1 .left)
+returns-2 c = simp (← c .new .ensures, ← c .before .before .is-completed .ensures, ← c .before .before .before .rx-state .ensures, c .before .if1 .left)
 
 pub take-completed-rx-event-spec : {M : Type 1} → statement M
 take-completed-rx-event-spec =
     tie.close
     (tie.spec
-    is-completed-requires
+    rx-state-requires is-completed-requires
     acknowledge-rx-frame-requires
     last-rx-event-requires
     returns
