@@ -468,6 +468,14 @@ module _ {M : Type 1} {𝓤 : URA M} {H : Heap 𝓤} {A : Atoms 𝓤} where
           → At K W C Λ l ls vs (struct-cell 𝓤 ν τs b o us ∷ X) (assign (place i (deref (tyStruct ν τs) ∷ field k ∷ [])) (rvOpd a)) (anyQ (afterSeq 𝓤 H (Wp 𝓤 H C Λ (blocks l ls) c (post 𝓤 H q)) (post 𝓤 H q)))
       stores-field-last t b o k e h g w fits s = stores-last t b o (k ∷ []) e h g (leads ν τs b o k w) (sub t k w (whole t)) fits s
 
+      -- and of the field k of the struct that the field j holds
+      pub stores-within : K → {i : ℕ} {a : Operand} {c : Body} {σ τ : Ty} {d e : ℕ} {v : Val} {μ : Sym} {σs : Tys} {ws : Vals} (b o j k : ℕ) → typeOf ls i ≡ some σ → vs i ≡ some (vptr b o) → Gets K W l ls vs (struct-cell 𝓤 ν τs b o us ∷ X) a v
+          → fieldAt zero τs j ≡ some (tyStruct μ σs, d) → getV us j ≡ vstruct ws → fieldAt zero σs k ≡ some (τ, e) → T (hasTy τ v) × WT v → At K W C Λ l ls vs (struct-cell 𝓤 ν τs b o (setV us j (vstruct (setV ws k v))) ∷ X) c q
+          → At K W C Λ l ls vs (struct-cell 𝓤 ν τs b o us ∷ X) (seq (assign (place i (deref (tyStruct ν τs) ∷ field j ∷ field k ∷ [])) (rvOpd a)) c) q
+      stores-within t {d = d} {μ = μ} {σs = σs} {ws = ws} b o j k at-i h g w holds w₁ fits s =
+          stores t b o (j ∷ k ∷ []) at-i h g (ap (λ (f : Option (Ty × ℕ)). onward f (λ p. follow (p .0, b, o + p .1) (k ∷ []))) w ∙ leads μ σs b (o + d) k w₁)
+          (sub t k w₁ (subst (λ (z : Val). Part K W (struct-cell 𝓤 ν τs b o us) fullShare (tyStruct μ σs) b (o + d) z (λ u. struct-cell 𝓤 ν τs b o (setV us j u))) holds (sub t j w (whole t)))) fits s
+
 -- a local that lies in no memory of its own
 abbrev pub value : Ty → Local
 value τ = local τ valueLocal
