@@ -6,7 +6,6 @@ use Rattle.fsm.proofs.restart_gate_for.Reads as restart-gate-for
 use Rattle.fsm.proofs.sample.Reads as sample
 use Rattle.fsm.proofs.fill.Reads as fill
 use Rattle.fsm.proofs.with_end.Reads as with-end
-use Rattle.fsm.proofs.with_rx.Reads as with-rx
 use Rattle.fsm.proofs.captured.Reads as captured
 use Rattle.fsm.proofs.end_rx.Reads as end-rx
 use Rattle.fsm.proofs.DaliBitbangPhy.new.Reads as new-station
@@ -43,9 +42,6 @@ fill-sole κs a x = named _
 
 pub with-end-sole : (κs : _) (a : _) (x : _) → Only (λ r. with-end.Post κs a r x)
 with-end-sole κs a x = named _
-
-pub with-rx-sole : (κs : _) (a : _) (x : _) → Only (λ r. with-rx.Post κs a r x)
-with-rx-sole κs a x = named _
 
 pub captured-sole : (κs : _) (a : _) (x : _) → Only (λ r. captured.Post κs a r x)
 captured-sole κs a x = named _

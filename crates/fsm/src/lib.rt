@@ -248,7 +248,7 @@ pub fn with_end(rx_data: Samples, rx: Rx) -> Samples
     rx_data.with_byte(rx.rx_pos as usize, 0xFF)
 }
 
-pub fn with_rx(mut core: Core, rx: Rx) -> Core
+fn with_rx(mut core: Core, rx: Rx) -> Core
     ensures { λ r. ⌜ r ≡ withRx core rx ⌝ }
 {
     core.rx = rx;

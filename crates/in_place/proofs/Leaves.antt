@@ -1,14 +1,15 @@
--- What each way through a tick in place leaves is what a tick leaves. Assumes nothing.
+-- What each way through a tick in place leaves is what a tick leaves; and where a way stores one group of the core, no other changes. Assumes nothing.
 use Prim.Native.Nat.{min}
 use mathlib.Core.Bool.{Bool, true, false}
 use mathlib.Core.Path.{_≡_, refl, sym, ap, _∙_}
 use Rattle.laws.proofs.Picked.{on-true, on-false}
 use Rattle.capture.specs.declared.Samples.{Samples}
 use Rattle.capture.specs.Samples.{withByte}
-use Rattle.machine.specs.Fields.{withRx}
+use Rattle.machine.specs.Fields.{withTx, withRuns, withBus, withRx}
 use Rattle.machine.specs.Runs.{heardOf}
 use Rattle.machine.specs.Idle.{silent, idleTick}
-use Rattle.machine.specs.Sending.{txTick}
+use Rattle.machine.specs.Sending.{Step, txStep, isHold, stepped, txTick, held}
+use Rattle.machine.proofs.Holding.{is-hold}
 use Rattle.machine.specs.Collision.{collisionTick}
 use Rattle.machine.specs.declared.BusState.{BusState}
 use Rattle.machine.specs.declared.BusState.the-variants as bus
@@ -33,9 +34,27 @@ withData s bytes = stationOf (s .core) bytes (s .«tx_hb») (s .«last_rx»)
 abbrev pub withEvent : DaliBitbangPhy → LastRx → DaliBitbangPhy
 withEvent s event = stationOf (s .core) (s .«rx_data») (s .«tx_hb») event
 
+-- ---- the one group that changes
+pub counts-bus : (c : Core) → silent c ≡ withBus c (silent c .bus)
+unfolding silent
+counts-bus c = refl
+
+pub holds-tx : (c : Core) → held c ≡ withTx c (held c .tx)
+unfolding held
+holds-tx c = refl
+
 module _ (s : DaliBitbangPhy) (high : Bool) where
+  -- the core that has heard the level
   abbrev pub hears : Core
   hears = heardOf (s .core) high
+
+  pub hears-runs : hears ≡ withRuns (s .core) (hears .runs)
+  unfolding heardOf
+  hears-runs = refl
+
+  -- and the station that has it
+  abbrev pub hearing : DaliBitbangPhy
+  hearing = withCore s hears
 
   abbrev Is : BusState → Type 0
   Is x = hears .bus .«bus_state» ≡ x
@@ -50,6 +69,10 @@ module _ (s : DaliBitbangPhy) (high : Bool) where
   pub falls : high ≡ false → Is bus.Idle → driving (withCore s (idleTick hears false)) ≡ ticked s high
   unfolding actOf
   falls down e = leaves bus.Idle e _ (ap (λ (h : Bool). withCore s (idleTick hears h)) (sym down))
+
+  pub holds : Is bus.Tx → isHold (txStep (hears .tx) (hears .«collision_policy») (s .«tx_hb») high) ≡ true → driving (withCore s (held hears)) ≡ ticked s high
+  unfolding actOf txTick stepped
+  holds e more = leaves bus.Tx e _ (ap (λ (x : Step). withCore s (stepped x hears)) (sym (is-hold _ more)))
 
   pub sends : Is bus.Tx → driving (withCore s (txTick hears (s .«tx_hb») high)) ≡ ticked s high
   unfolding actOf
@@ -83,7 +106,7 @@ module _ (s : DaliBitbangPhy) (high : Bool) where
   withEnd bytes = withByte bytes (rxOf .«rx_pos») 255
 
   abbrev pub captured : Samples → DaliBitbangPhy
-  captured bytes = withEvent (withData s (withEnd bytes)) (lastOf (finished hears rxOf) (withEnd bytes))
+  captured bytes = withEvent (withData hearing (withEnd bytes)) (lastOf (finished hears rxOf) (withEnd bytes))
 
   module _ (e : Is bus.Rx) (bytes : Samples) (same : bytes ≡ dataOf) where
     pub goes-on : goesOn rxOf ≡ true → driving (withCore (withData s bytes) (withRx hears rxOf)) ≡ ticked s high

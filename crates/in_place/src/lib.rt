@@ -5,21 +5,23 @@ use fsm::BusState;
 use fsm::DaliBitbangPhy;
 use fsm::RX_IDLE_LINE_HIGH_TICKS;
 
-// What the by-value tick answers. Each way through it stores what it changes, and nothing else: where two ways met before a store, the compiler would
-// store all of the core.
+// What the by-value tick answers. Each state reads the core for itself, and Tx once more where a half-bit is not held: the compiler reads on a way what
+// that way needs, but all of the core where one reading serves many. The ways that most ticks take store the one group that they change.
 pub fn tick(station: &mut DaliBitbangPhy, bus_is_high: bool) -> bool
     ensures { λ r. ⌜ now (station .exit) ≡ ticked (now (station .entry)) «bus_is_high» .station ⌝ }
     ensures { λ r. ⌜ r ≡ ticked (now (station .entry)) «bus_is_high» .«driven_high» ⌝ }
 {
     let old = (*station).core;
-    let core = old.heard(bus_is_high);
-    let bus = core.bus;
+    let heard = old.heard(bus_is_high);
+    (*station).core.runs = heard.runs;
+    let bus = heard.bus;
     let bus_state = bus.bus_state;
     match bus_state {
         BusState::Idle => {
+            let core = (*station).core;
             if bus_is_high {
                 let next = core.count_idle();
-                (*station).core = next;
+                (*station).core.bus = next.bus;
                 return next.bus.driven_high;
             }
             let next = core.tick_idle(false);
@@ -27,6 +29,7 @@ pub fn tick(station: &mut DaliBitbangPhy, bus_is_high: bool) -> bool
             return next.bus.driven_high;
         }
         BusState::Rx => {
+            let core = (*station).core;
             let from = core.rx;
             if from.rx_bit_cnt == 7 {
                 let data = fsm::fill((*station).rx_data, from, bus_is_high);
@@ -34,9 +37,8 @@ pub fn tick(station: &mut DaliBitbangPhy, bus_is_high: bool) -> bool
             }
             let rx = fsm::sample(from, bus_is_high);
             if rx.rx_idle < RX_IDLE_LINE_HIGH_TICKS {
-                let next = fsm::with_rx(core, rx);
-                (*station).core = next;
-                return next.bus.driven_high;
+                (*station).core.rx = rx;
+                return core.bus.driven_high;
             }
             let next = fsm::end_rx(core, rx);
             let samples = fsm::with_end((*station).rx_data, rx);
@@ -47,11 +49,20 @@ pub fn tick(station: &mut DaliBitbangPhy, bus_is_high: bool) -> bool
             return next.bus.driven_high;
         }
         BusState::Tx => {
-            let next = core.tick_tx((*station).tx_hb, bus_is_high);
+            let tx_hb = (*station).tx_hb;
+            let holding = (*station).core;
+            if holding.holds(tx_hb, bus_is_high) {
+                let next = holding.hold_half_bit();
+                (*station).core.tx = next.tx;
+                return next.bus.driven_high;
+            }
+            let core = (*station).core;
+            let next = core.tick_tx(tx_hb, bus_is_high);
             (*station).core = next;
             return next.bus.driven_high;
         }
         BusState::CollisionTx => {
+            let core = (*station).core;
             let next = core.tick_collision_tx(bus_is_high);
             (*station).core = next;
             return next.bus.driven_high;

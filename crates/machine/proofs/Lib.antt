@@ -1,2 +1,3 @@
-pub mod Store
+pub mod Holding
 pub mod Sole
+pub mod Store

@@ -13,6 +13,8 @@ use Rattle.machine.proofs.Core.heard.Reads as heard
 use Rattle.machine.proofs.Core.set_bus_idle.Reads as set-bus-idle
 use Rattle.machine.proofs.Core.tick_idle.Reads as tick-idle
 use Rattle.machine.proofs.Core.count_idle.Reads as count-idle
+use Rattle.machine.proofs.Core.holds.Reads as holds
+use Rattle.machine.proofs.Core.hold_half_bit.Reads as hold-half-bit
 use Rattle.machine.proofs.Core.tick_tx.Reads as tick-tx
 use Rattle.machine.proofs.Core.tick_collision_tx.Reads as tick-collision-tx
 use Rattle.machine.proofs.Core.load_tx.Reads as load-tx
@@ -52,6 +54,12 @@ tick-idle-sole κs a x = named _
 
 pub count-idle-sole : (κs : _) (a : _) (x : _) → Only (λ r. count-idle.Post κs a r x)
 count-idle-sole κs a x = named _
+
+pub holds-sole : (κs : _) (a : _) (x : _) → Only (λ r. holds.Post κs a r x)
+holds-sole κs a x = named _
+
+pub hold-half-bit-sole : (κs : _) (a : _) (x : _) → Only (λ r. hold-half-bit.Post κs a r x)
+hold-half-bit-sole κs a x = named _
 
 pub tick-tx-sole : (κs : _) (a : _) (x : _) → Only (λ r. tick-tx.Post κs a r x)
 tick-tx-sole κs a x = named _

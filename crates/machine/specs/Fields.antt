@@ -12,33 +12,33 @@ use Rattle.machine.specs.declared.Tx.{Tx}
 use Rattle.machine.specs.declared.Core.{Core}
 
 -- ---- groups
-abbrev pub coreOf : Tx → CollisionPolicy → Runs → Bus → Rx → Told → Core
-coreOf tx policy runs bus rx told = record {
-  tx = tx;
-  «collision_policy» = policy;
-  runs = runs;
-  bus = bus;
-  rx = rx;
+abbrev pub coreOf : Told → CollisionPolicy → Bus → Tx → Rx → Runs → Core
+coreOf told policy bus tx rx runs = record {
   told = told;
+  «collision_policy» = policy;
+  bus = bus;
+  tx = tx;
+  rx = rx;
+  runs = runs;
 }
 
-abbrev pub withTx : Core → Tx → Core
-withTx c tx = coreOf tx (c .«collision_policy») (c .runs) (c .bus) (c .rx) (c .told)
+abbrev pub withTold : Core → Told → Core
+withTold c told = coreOf told (c .«collision_policy») (c .bus) (c .tx) (c .rx) (c .runs)
 
 abbrev pub withPolicy : Core → CollisionPolicy → Core
-withPolicy c policy = coreOf (c .tx) policy (c .runs) (c .bus) (c .rx) (c .told)
-
-abbrev pub withRuns : Core → Runs → Core
-withRuns c runs = coreOf (c .tx) (c .«collision_policy») runs (c .bus) (c .rx) (c .told)
+withPolicy c policy = coreOf (c .told) policy (c .bus) (c .tx) (c .rx) (c .runs)
 
 abbrev pub withBus : Core → Bus → Core
-withBus c bus = coreOf (c .tx) (c .«collision_policy») (c .runs) bus (c .rx) (c .told)
+withBus c bus = coreOf (c .told) (c .«collision_policy») bus (c .tx) (c .rx) (c .runs)
+
+abbrev pub withTx : Core → Tx → Core
+withTx c tx = coreOf (c .told) (c .«collision_policy») (c .bus) tx (c .rx) (c .runs)
 
 abbrev pub withRx : Core → Rx → Core
-withRx c rx = coreOf (c .tx) (c .«collision_policy») (c .runs) (c .bus) rx (c .told)
+withRx c rx = coreOf (c .told) (c .«collision_policy») (c .bus) (c .tx) rx (c .runs)
 
-abbrev pub withTold : Core → Told → Core
-withTold c told = coreOf (c .tx) (c .«collision_policy») (c .runs) (c .bus) (c .rx) told
+abbrev pub withRuns : Core → Runs → Core
+withRuns c runs = coreOf (c .told) (c .«collision_policy») (c .bus) (c .tx) (c .rx) runs
 
 -- ---- fields of the bus
 abbrev pub withIdlecnt : Core → ℕ → Core

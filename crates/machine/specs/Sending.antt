@@ -71,6 +71,15 @@ txStep tx policy hb high =
     (pick (leb 56 at) End
     (Drive (releasesAt hb at))))))
 
+-- whether that is the rule of a half-bit that is not over yet
+unfoldable pub isHold : Step → Bool
+isHold Arm = false
+isHold Yield = false
+isHold End = false
+isHold Clash = false
+isHold Hold = true
+isHold (Drive high) = false
+
 -- ---- what each does
 unfoldable pub armed : Core → Core
 armed c = withTxArmed c (c .tx .«tx_armed» - 1)

@@ -7,7 +7,7 @@ ghost use Rattle.machine.specs.Numbers.{busStateNumber, rxStateNumber, c
 ghost use Rattle.machine.specs.States.{isIdle, hears, isTx, isCompleted};
 ghost use Rattle.machine.specs.Runs.{heardOf};
 ghost use Rattle.machine.specs.Idle.{entered, silent, fell, idleTick};
-ghost use Rattle.machine.specs.Sending.{halfBitsIn, storeOf, releasesAt, watchesOf, clashOf, armedStep, armed, yielded, clashed, held, driven, stepped, txTick};
+ghost use Rattle.machine.specs.Sending.{halfBitsIn, storeOf, releasesAt, watchesOf, clashOf, armedStep, txStep, isHold, armed, yielded, clashed, held, driven, stepped, txTick};
 ghost use Rattle.machine.specs.Collision.{broke, collisionTick};
 ghost use Rattle.machine.specs.BecomingIdle.{idled};
 ghost use Rattle.machine.specs.Starting.{loaded};
@@ -192,10 +192,10 @@ pub struct Told {
 
 // Where a frame that is being sent stands.
 pub struct Tx {
-    pub tx_hb_cnt: u8,
-    pub tx_sp_cnt: u8,
     pub tx_high: u8,
     pub tx_armed: u8,
+    pub tx_hb_cnt: u8,
+    pub tx_sp_cnt: u8,
     pub tx_answer: bool,
 }
 
@@ -207,16 +207,15 @@ pub struct TxHb {
 }
 
 // A station without its captures and half-bits. A change of a group is one literal that names all its fields: the compiler then keeps the
-// fields apart. A group is bound first where an enum of it is handed on, since no enum is read at depth; in `drive_half_bit`,
-// `tick_collision_tx` and `load_tx` the compiler would make another tick without. The order of the groups, and that none has a gap, makes the
-// least of the copies of a station that is lent.
+// fields apart. A group is bound first where an enum of it is handed on, since no enum is read at depth. The order of the groups, and of Tx's
+// fields, was chosen by the clock, and no group has a gap.
 pub struct Core {
-    pub tx: Tx,
-    pub collision_policy: CollisionPolicy,
-    pub runs: Runs,
-    pub bus: Bus,
-    pub rx: Rx,
     pub told: Told,
+    pub collision_policy: CollisionPolicy,
+    pub bus: Bus,
+    pub tx: Tx,
+    pub rx: Rx,
+    pub runs: Runs,
 }
 
 // A sum takes fewer steps than a choice between two answers: 1 is added, or 0 at the greatest.
@@ -538,8 +537,26 @@ impl Core {
         self
     }
 
+    // Whether a tick of Tx is one tick more of a half-bit, as most are.
+    pub fn holds(self, tx_hb: TxHb, bus_is_high: bool) -> bool
+        ensures { λ r. ⌜ r ≡ isHold (txStep (self .tx) (self .«collision_policy») «tx_hb» «bus_is_high») ⌝ }
+    {
+        let policy = self.collision_policy;
+        let len = tx_hb.tx_hb_len;
+        if self.tx.tx_armed != 0 {
+            return false;
+        }
+        if len <= self.tx.tx_hb_cnt as u64 {
+            return false;
+        }
+        if self.tx.collision_detected(policy, len, bus_is_high) {
+            return false;
+        }
+        self.tx.tx_sp_cnt != 0
+    }
+
     // One tick more of a half-bit.
-    fn hold_half_bit(mut self) -> Core
+    pub fn hold_half_bit(mut self) -> Core
         ensures { λ r. ⌜ r ≡ held self ⌝ }
     {
         let left = saturating_dec8(self.tx.tx_sp_cnt);
@@ -559,9 +576,8 @@ impl Core {
         ensures { λ r. ⌜ r ≡ driven self high ⌝ }
     {
         let on = self.bus;
-        let old = self.tx;
         let bus_state = on.bus_state;
-        let count = wrapping_inc8(old.tx_hb_cnt);
+        let count = wrapping_inc8(self.tx.tx_hb_cnt);
         let bus = Bus {
             idlecnt: on.idlecnt,
             bus_state,
@@ -573,8 +589,8 @@ impl Core {
             tx_hb_cnt: count,
             tx_sp_cnt: TX_HALF_BIT_TICKS as u8 - 1,
             tx_high: high as u8,
-            tx_armed: old.tx_armed,
-            tx_answer: old.tx_answer,
+            tx_armed: self.tx.tx_armed,
+            tx_answer: self.tx.tx_answer,
         };
         self.bus = bus;
         self.tx = tx;
@@ -629,20 +645,19 @@ impl Core {
     pub fn tick_collision_tx(mut self, bus_is_high: bool) -> Core
         ensures { λ r. ⌜ r ≡ collisionTick self «bus_is_high» ⌝ }
     {
-        let on = self.bus;
-        let old = self.tx;
-        let ticks = wrapping_inc8(old.tx_sp_cnt);
+        let ticks = wrapping_inc8(self.tx.tx_sp_cnt);
         let tx = Tx {
-            tx_hb_cnt: old.tx_hb_cnt,
+            tx_hb_cnt: self.tx.tx_hb_cnt,
             tx_sp_cnt: ticks,
-            tx_high: old.tx_high,
-            tx_armed: old.tx_armed,
-            tx_answer: old.tx_answer,
+            tx_high: self.tx.tx_high,
+            tx_armed: self.tx.tx_armed,
+            tx_answer: self.tx.tx_answer,
         };
         self.tx = tx;
         if COLLISION_CHECK_TICK <= ticks {
             return self.leave_collision_tx(bus_is_high);
         }
+        let on = self.bus;
         let bus_state = on.bus_state;
         let bus = Bus {
             idlecnt: on.idlecnt,
@@ -659,17 +674,15 @@ impl Core {
     pub fn load_tx(mut self, answer: bool) -> Core
         ensures { λ r. ⌜ r ≡ loaded self answer ⌝ }
     {
-        let on = self.bus;
-        let old = self.tx;
         let bus = Bus {
-            idlecnt: on.idlecnt,
+            idlecnt: self.bus.idlecnt,
             bus_state: BusState::Tx,
-            rx_debounce: on.rx_debounce,
-            driven_high: on.driven_high,
+            rx_debounce: self.bus.rx_debounce,
+            driven_high: self.bus.driven_high,
             tx_busy: true,
         };
         let told = Told {
-            tx_pre_idle: on.idlecnt,
+            tx_pre_idle: self.bus.idlecnt,
             rx_state: RxState::Empty,
             tx_collision: 0,
             tx_idle_after_break: false,
@@ -678,7 +691,7 @@ impl Core {
         let tx = Tx {
             tx_hb_cnt: 0,
             tx_sp_cnt: 0,
-            tx_high: old.tx_high,
+            tx_high: self.tx.tx_high,
             tx_armed: TX_ARM_LEAD_TICKS,
             tx_answer: answer,
         };

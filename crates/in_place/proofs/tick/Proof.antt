@@ -1,8 +1,8 @@
 -- `in_place::tick` meets its contract. The borrow checker has no plan for a struct behind a reference, so this is a walk of the function's MIR
--- by hand, with walk's steps: the loan is opened, the core is copied out and hears the level, and each arm of the match stores what it changes
--- and ends in `leaf`, which stores the core and closes the loan. All that is known of a callee is what it answers (`Known`). That what each arm
--- leaves is a tick is Leaves's. Assumes nothing.
-use mathlib.Core.Path.{_≡_, refl, ap}
+-- by hand, with walk's steps: the loan is opened, the core hears the level and its runs are stored, and each arm of the match reads the core again,
+-- stores the group that it changes or all of it, and ends in `tells`, which closes the loan. All that is known of a callee is what it answers
+-- (`Known`). That what each arm leaves is a tick, and which group alone it changes, is Leaves's. Assumes nothing.
+use mathlib.Core.Path.{_≡_, refl, ap, subst}
 use Prim.Native.Nat.{ℕ, min}
 use mathlib.Core.Bool.{Bool, false}
 use mathlib.Core.Option.{some}
@@ -29,22 +29,29 @@ use denote.Enum.Laws as enum
 use denote.Struct.Laws.{owes, owed}
 use denote.Triple.Spec.{Meets, tripleOf}
 use denote.Triple.Table.{entered}
-use Rattle.walk.proofs.Walk.{Data, Good, Computes, cites, struct, truth, Held, nothing-more, put, blocks, typeOf, inside, alloc-all, At, Gets, held, part, tag, literal, end, also, copies, tests, asks, ifs, chooses, field-behind, stores-field, stores-field-last, Loan, Opened, opens-loan, closes-loan, leaves-within, value}
+use Rattle.walk.proofs.Walk.{Data, Good, Computes, cites, struct, truth, Held, nothing-more, put, blocks, typeOf, inside, alloc-all, At, Gets, held, part, tag, literal, end, also, copies, tests, asks, ifs, chooses, field-behind, stores-within, stores-field, stores-field-last, Loan, Opened, opens-loan, closes-loan, leaves-within, value}
 use Rattle.capture.specs.declared.Samples.{Samples}
 use Rattle.capture.specs.Samples.{withByte}
 use Rattle.capture.proofs.Samples as samples
 use Rattle.capture.proofs.Samples.Laws as samples-laws
 use Rattle.machine.specs.Runs.{heardOf}
-use Rattle.machine.specs.Fields.{withRx}
+use Rattle.machine.specs.Fields.{withTx, withRuns, withBus, withRx}
 use Rattle.machine.specs.Idle.{silent, idleTick}
-use Rattle.machine.specs.Sending.{txTick}
+use Rattle.machine.specs.Sending.{txStep, isHold, txTick, held as kept}
 use Rattle.machine.specs.Collision.{collisionTick}
 use Rattle.machine.specs.declared.BusState.{BusState}
 use Rattle.machine.specs.declared.BusState.the-variants as states
+use Rattle.machine.specs.declared.Tx.{Tx}
+use Rattle.machine.specs.declared.Runs.{Runs}
+use Rattle.machine.specs.declared.Bus.{Bus}
 use Rattle.machine.specs.declared.Rx.{Rx}
 use Rattle.machine.specs.declared.Core.{Core}
 use Rattle.machine.proofs.Core as core
 use Rattle.machine.proofs.Core.Laws as core-laws
+use Rattle.machine.proofs.Tx as tx
+use Rattle.machine.proofs.Tx.Laws as tx-laws
+use Rattle.machine.proofs.Runs as runs
+use Rattle.machine.proofs.Runs.Laws as runs-laws
 use Rattle.machine.proofs.Bus as bus
 use Rattle.machine.proofs.Bus.Laws as bus-laws
 use Rattle.machine.proofs.BusState as state
@@ -59,6 +66,10 @@ use Rattle.machine.proofs.Core.count_idle.Symbol as count-idle-code
 use Rattle.machine.proofs.Core.count_idle.Met as count-idle-met
 use Rattle.machine.proofs.Core.tick_idle.Symbol as tick-idle-code
 use Rattle.machine.proofs.Core.tick_idle.Met as tick-idle-met
+use Rattle.machine.proofs.Core.holds.Symbol as holds-code
+use Rattle.machine.proofs.Core.holds.Met as holds-met
+use Rattle.machine.proofs.Core.hold_half_bit.Symbol as hold-half-bit-code
+use Rattle.machine.proofs.Core.hold_half_bit.Met as hold-half-bit-met
 use Rattle.machine.proofs.Core.tick_tx.Symbol as tick-tx-code
 use Rattle.machine.proofs.Core.tick_tx.Met as tick-tx-met
 use Rattle.machine.proofs.Core.tick_collision_tx.Symbol as tick-collision-tx-code
@@ -67,8 +78,6 @@ use Rattle.fsm.proofs.fill.Symbol as fill-code
 use Rattle.fsm.proofs.fill.Met as fill-met
 use Rattle.fsm.proofs.sample.Symbol as sample-code
 use Rattle.fsm.proofs.sample.Met as sample-met
-use Rattle.fsm.proofs.with_rx.Symbol as with-rx-code
-use Rattle.fsm.proofs.with_rx.Met as with-rx-met
 use Rattle.fsm.proofs.end_rx.Symbol as end-rx-code
 use Rattle.fsm.proofs.end_rx.Met as end-rx-met
 use Rattle.fsm.proofs.with_end.Symbol as with-end-code
@@ -82,7 +91,7 @@ use Rattle.fsm.specs.declared.LastRx.{LastRx}
 use Rattle.fsm.specs.declared.DaliBitbangPhy.{DaliBitbangPhy}
 use Rattle.fsm.specs.declared.Ticked.{Ticked}
 use Rattle.in_place.proofs.Lent.{two, meets as lent-meets}
-use Rattle.in_place.proofs.Leaves.{driving, withData, withEvent, hears, counts, falls, sends, breaks, rxOf, dataOf, withEighth, fills, keeps, withEnd, captured, goes-on, ends as captures}
+use Rattle.in_place.proofs.Leaves.{driving, withData, withEvent, hears, hearing, hears-runs, counts-bus, holds-tx, counts, falls, holds, sends, breaks, rxOf, dataOf, withEighth, fills, keeps, withEnd, captured, goes-on, ends as captures}
 use Rattle.fsm.proofs.DaliBitbangPhy as phy
 use Rattle.fsm.proofs.DaliBitbangPhy.Laws as phy-laws
 use Rattle.fsm.proofs.LastRx as last
@@ -97,8 +106,9 @@ use Rattle.in_place.proofs.tick.Code.Mir as body
 abbrev room : List Local
 room =
     value tyBool ∷ value (tyRef (named 0) mut (pointee (phy.the-row .written))) ∷ value tyBool ∷ value core-laws.mir ∷ value core-laws.mir ∷ value bus-laws.mir ∷ value state-laws.mir ∷
-    value core-laws.mir ∷ value core-laws.mir ∷ value rx-laws.mir ∷ value samples-laws.mir ∷ value rx-laws.mir ∷ value core-laws.mir ∷ value core-laws.mir ∷ value samples-laws.mir ∷ value last-laws.mir ∷
-    value core-laws.mir ∷ value core-laws.mir ∷ value tyBool ∷ value tyBool ∷ value samples-laws.mir ∷ value samples-laws.mir ∷ value hb-laws.mir ∷ []
+    value core-laws.mir ∷ value core-laws.mir ∷ value core-laws.mir ∷ value core-laws.mir ∷ value rx-laws.mir ∷ value samples-laws.mir ∷ value rx-laws.mir ∷ value core-laws.mir ∷ value samples-laws.mir ∷
+    value last-laws.mir ∷ value hb-laws.mir ∷ value core-laws.mir ∷ value core-laws.mir ∷ value core-laws.mir ∷ value core-laws.mir ∷ value core-laws.mir ∷ value core-laws.mir ∷ value tyBool ∷ value tyBool ∷
+    value samples-laws.mir ∷ value samples-laws.mir ∷ value tyBool ∷ []
 
 module _ {M : Type 1} (𝓤 : URA M) (H : Heap 𝓤) (A : Atoms 𝓤) (at-mem : Memory → SProp 𝓤) (run : Routine → Fun 𝓤) (W : Given 𝓤 H A) where
   abbrev level-data : Data 𝓤 H A
@@ -109,6 +119,12 @@ module _ {M : Type 1} (𝓤 : URA M) (H : Heap 𝓤) (A : Atoms 𝓤) (at-mem : 
 
   abbrev core-data : Data 𝓤 H A
   core-data = struct 𝓤 H A W core.the-type core-laws.the-laws core-laws.the-plain
+
+  abbrev tx-data : Data 𝓤 H A
+  tx-data = struct 𝓤 H A W tx.the-type tx-laws.the-laws tx-laws.the-plain
+
+  abbrev runs-data : Data 𝓤 H A
+  runs-data = struct 𝓤 H A W runs.the-type runs-laws.the-laws runs-laws.the-plain
 
   abbrev bus-data : Data 𝓤 H A
   bus-data = struct 𝓤 H A W bus.the-type bus-laws.the-laws bus-laws.the-plain
@@ -133,11 +149,12 @@ module _ {M : Type 1} (𝓤 : URA M) (H : Heap 𝓤) (A : Atoms 𝓤) (at-mem : 
     heard : Computes C heard-code.name (core-data ∷ level-data ∷ []) core-data (λ a. heardOf (a .0) (a .1 .0))
     count-idle : Computes C count-idle-code.name (core-data ∷ []) core-data (λ a. silent (a .0))
     tick-idle : Computes C tick-idle-code.name (core-data ∷ level-data ∷ []) core-data (λ a. idleTick (a .0) (a .1 .0))
+    holds : Computes C holds-code.name (core-data ∷ hb-data ∷ level-data ∷ []) level-data (λ a. isHold (txStep (a .0 .tx) (a .0 .«collision_policy») (a .1 .0) (a .1 .1 .0)))
+    hold-half-bit : Computes C hold-half-bit-code.name (core-data ∷ []) core-data (λ a. kept (a .0))
     tick-tx : Computes C tick-tx-code.name (core-data ∷ hb-data ∷ level-data ∷ []) core-data (λ a. txTick (a .0) (a .1 .0) (a .1 .1 .0))
     tick-collision-tx : Computes C tick-collision-tx-code.name (core-data ∷ level-data ∷ []) core-data (λ a. collisionTick (a .0) (a .1 .0))
     fill : Computes C fill-code.name (bytes-data ∷ rx-data ∷ level-data ∷ []) bytes-data (λ a. withByte (a .0) (min (a .1 .0 .«rx_pos») 63) (shifted (a .1 .0) (a .1 .1 .0)))
     sample : Computes C sample-code.name (rx-data ∷ level-data ∷ []) rx-data (λ a. sampled (a .0) (a .1 .0))
-    with-rx : Computes C with-rx-code.name (core-data ∷ rx-data ∷ []) core-data (λ a. withRx (a .0) (a .1 .0))
     end-rx : Computes C end-rx-code.name (core-data ∷ rx-data ∷ []) core-data (λ a. finished (a .0) (a .1 .0))
     with-end : Computes C with-end-code.name (bytes-data ∷ rx-data ∷ []) bytes-data (λ a. withByte (a .0) (a .1 .0 .«rx_pos») 255)
     captured : Computes C captured-code.name (core-data ∷ bytes-data ∷ []) event-data (λ a. lastOf (a .0) (a .1 .0))
@@ -151,6 +168,19 @@ module _ {M : Type 1} (𝓤 : URA M) (H : Heap 𝓤) (A : Atoms 𝓤) (at-mem : 
 
   station-owed : (t : DaliBitbangPhy) → Fields t → Good Station t
   station-owed t h = owes phy.the-type phy-laws.the-laws t h
+
+  -- and of a core's groups: its Tx, its Bus, its Rx and its Runs
+  tx-of : (d : Core) → Good core-data d → Good tx-data (d .tx)
+  tx-of d is = owed core.the-type core-laws.the-laws d _ is .1 .1 .1 .0
+
+  bus-of : (d : Core) → Good core-data d → Good bus-data (d .bus)
+  bus-of d is = owed core.the-type core-laws.the-laws d _ is .1 .1 .0
+
+  rx-of : (d : Core) → Good core-data d → Good rx-data (d .rx)
+  rx-of d is = owed core.the-type core-laws.the-laws d _ is .1 .1 .1 .1 .0
+
+  runs-of : (d : Core) → Good core-data d → Good runs-data (d .runs)
+  runs-of d is = owed core.the-type core-laws.the-laws d _ is .1 .1 .1 .1 .1 .0
 
   -- The station `s` is lent for κ, of which the share q is held; it lies in block b at o, and γ is the loan's ghost name. `high` is the level passed.
   module _ (κ : Lft) (q : Share) (b o : ℕ) (γ : GName) (s : DaliBitbangPhy) (high : Bool) where
@@ -189,6 +219,11 @@ module _ {M : Type 1} (𝓤 : URA M) (H : Heap 𝓤) (A : Atoms 𝓤) (at-mem : 
         core-loads : (t : DaliBitbangPhy) {vs : Held} → Lent vs → Loads vs t (field 0 ∷ []) (core-data .val (t .core))
         core-loads t r = field-behind ! b o 0 refl r refl
 
+        -- the core is read into local i, before a
+        reads-core : (t : DaliBitbangPhy) {vs : Held} {i : ℕ} {a : Body} {Q : Kit.Post 𝓤 H} → typeOf room i ≡ some core-laws.mir → Lent vs → Good core-data (t .core) → Walk (put i (some (core-data .val (t .core))) vs) t a Q
+            → Walk vs t (seq (assign (place i []) (rvOpd (copy (place 1 (deref phy-laws.mir ∷ field 0 ∷ []))))) a) Q
+        reads-core t is-core r is w = copies ! is-core (core-loads t r) (core-data .typed (t .core) is) w
+
         data-loads : (t : DaliBitbangPhy) {vs : Held} → Lent vs → Loads vs t (field 1 ∷ []) (bytes-data .val (t .«rx_data»))
         data-loads t r = field-behind ! b o 1 refl r refl
 
@@ -211,21 +246,44 @@ module _ {M : Type 1} (𝓤 : URA M) (H : Heap 𝓤) (A : Atoms 𝓤) (at-mem : 
         event-stores : (t : DaliBitbangPhy) (d : LastRx) {vs : Held} {x : Operand} {a : Body} {Q : Kit.Post 𝓤 H} → Lent vs → Good event-data d → Holds-at vs t x (event-data .val d) → Walk vs (withEvent t d) a Q → Walk vs t (seq (into 3 x) a) Q
         event-stores t d r is g w = stores-field ! b o 3 refl r g refl (event-data .typed d is) w
 
-        -- a leaf: local i holds the core that is stored, and its level is the result
-        leaf : (t : DaliBitbangPhy) (d : Core) {vs : Held} {i : ℕ} → typeOf room i ≡ some core-laws.mir → vs i ≡ some (core-data .val d) → Lent vs → Good Station t → Good core-data d → driving (withCore t d) ≡ ticked s high
-            → {Q : Kit.Post 𝓤 H} → Returns Q → Walk vs t (seq (into 0 (copy (place i []))) (seq (assign (place 0 []) (rvOpd (copy (place i (field 3 ∷ field 3 ∷ []))))) return)) Q
-        leaf t d {vs} is-core h r is good e out =
-            core-stores t d r good (held ! is-core h)
-            (copies ! {v = vbool (d .bus .«driven_high»)} refl (part ! (3 ∷ 3 ∷ []) is-core h refl (sub ! 3 refl (sub ! 3 refl (whole !)))) (tt, tt)
-            (ends (withCore t d) refl (station-owed (withCore t d) (good, station-owes t is .1)) e out))
+        -- a statement that stores x into the core's group k, before a; the core is then d, which differs in that group alone
+        abbrev into-core : ℕ → Operand → Body
+        into-core k x = assign (place 1 (deref phy-laws.mir ∷ field 0 ∷ field k ∷ [])) (rvOpd x)
 
-        -- the core that has heard the level
+        tx-stores : (t : DaliBitbangPhy) (d : Core) {vs : Held} {x : Operand} {a : Body} {Q : Kit.Post 𝓤 H} → d ≡ withTx (t .core) (d .tx) → Lent vs → Good tx-data (d .tx) → Holds-at vs t x (tx-data .val (d .tx)) → Walk vs (withCore t d) a Q → Walk vs t (seq (into-core 3 x) a) Q
+        tx-stores t d {vs} {a = a} {Q} only r is g w = stores-within ! b o 0 3 refl r g refl refl refl (tx-data .typed (d .tx) is) (subst (λ (y : Core). Walk vs (withCore t y) a Q) only w)
+
+        bus-stores : (t : DaliBitbangPhy) (d : Core) {vs : Held} {x : Operand} {a : Body} {Q : Kit.Post 𝓤 H} → d ≡ withBus (t .core) (d .bus) → Lent vs → Good bus-data (d .bus) → Holds-at vs t x (bus-data .val (d .bus)) → Walk vs (withCore t d) a Q → Walk vs t (seq (into-core 2 x) a) Q
+        bus-stores t d {vs} {a = a} {Q} only r is g w = stores-within ! b o 0 2 refl r g refl refl refl (bus-data .typed (d .bus) is) (subst (λ (y : Core). Walk vs (withCore t y) a Q) only w)
+
+        rx-stores : (t : DaliBitbangPhy) (d : Rx) {vs : Held} {x : Operand} {a : Body} {Q : Kit.Post 𝓤 H} → Lent vs → Good rx-data d → Holds-at vs t x (rx-data .val d) → Walk vs (withCore t (withRx (t .core) d)) a Q → Walk vs t (seq (into-core 4 x) a) Q
+        rx-stores t d r is g w = stores-within ! b o 0 4 refl r g refl refl refl (rx-data .typed d is) w
+
+        runs-stores : (t : DaliBitbangPhy) (d : Core) {vs : Held} {x : Operand} {a : Body} {Q : Kit.Post 𝓤 H} → d ≡ withRuns (t .core) (d .runs) → Lent vs → Good runs-data (d .runs) → Holds-at vs t x (runs-data .val (d .runs)) → Walk vs (withCore t d) a Q → Walk vs t (seq (into-core 5 x) a) Q
+        runs-stores t d {vs} {a = a} {Q} only r is g w = stores-within ! b o 0 5 refl r g refl refl refl (runs-data .typed (d .runs) is) (subst (λ (y : Core). Walk vs (withCore t y) a Q) only w)
+
+        -- the end of each way: the station drives the level of the core in local i, and that is the result
+        tells : (t : DaliBitbangPhy) (d : Core) {vs : Held} {i : ℕ} → typeOf room i ≡ some core-laws.mir → vs i ≡ some (core-data .val d) → d .bus .«driven_high» ≡ driven t → Good Station t → driving t ≡ ticked s high
+            → {Q : Kit.Post 𝓤 H} → Returns Q → Walk vs t (seq (assign (place 0 []) (rvOpd (copy (place i (field 2 ∷ field 3 ∷ []))))) return) Q
+        tells t d is-core h same is e out =
+            copies ! {v = vbool (d .bus .«driven_high»)} refl (part ! (2 ∷ 3 ∷ []) is-core h refl (sub ! 3 refl (sub ! 2 refl (whole !)))) (tt, tt) (ends t (ap (λ (y : Bool). some (vbool y)) same) is e out)
+
+        -- of a way that stores the core, which local i holds
+        leaf : (t : DaliBitbangPhy) (d : Core) {vs : Held} {i : ℕ} → typeOf room i ≡ some core-laws.mir → vs i ≡ some (core-data .val d) → Lent vs → Good Station t → Good core-data d → driving (withCore t d) ≡ ticked s high
+            → {Q : Kit.Post 𝓤 H} → Returns Q → Walk vs t (seq (into 0 (copy (place i []))) (seq (assign (place 0 []) (rvOpd (copy (place i (field 2 ∷ field 3 ∷ []))))) return)) Q
+        leaf t d is-core h r is good e out =
+            core-stores t d r good (held ! is-core h) (tells (withCore t d) d is-core h refl (station-owed (withCore t d) (good, station-owes t is .1)) e out)
+
+        -- the core that has heard the level, and the station that has it
         abbrev c : Core
         c = hears s high
 
+        abbrev h : DaliBitbangPhy
+        h = hearing s high
+
         -- what follows an arm
         abbrev Then : Kit.Post 𝓤 H
-        Then = anyQ (afterSeq 𝓤 H (Wp 𝓤 H C Λ E body.t-6 (post 𝓤 H (atRet E Post))) (post 𝓤 H (atRet E Post)))
+        Then = anyQ (afterSeq 𝓤 H (Wp 𝓤 H C Λ E body.t-7 (post 𝓤 H (atRet E Post))) (post 𝓤 H (atRet E Post)))
 
         -- the locals where the function begins, and where the state x is matched on
         abbrev given : Held
@@ -237,7 +295,7 @@ module _ {M : Type 1} (𝓤 : URA M) (H : Heap 𝓤) (A : Atoms 𝓤) (at-mem : 
 
         -- Rx: what follows the filling of a byte, and the taking of a sample; where the capture then stands
         abbrev after-filling : Body
-        after-filling = inside 0 (inside 0 (inside 0 (inside 1 body.s-5)))
+        after-filling = inside 0 (inside 0 (inside 0 (inside 0 (inside 1 body.s-6))))
 
         abbrev after-sampling : Body
         after-sampling = inside 0 (inside 0 (inside 0 after-filling))
@@ -245,9 +303,18 @@ module _ {M : Type 1} (𝓤 : URA M) (H : Heap 𝓤) (A : Atoms 𝓤) (at-mem : 
         abbrev r : Rx
         r = rxOf s high
 
-        module _ (was : Good Station s) (is : Good core-data c) where
-          is-rx : Good rx-data (c .rx)
-          is-rx = owed core.the-type core-laws.the-laws c _ is .1 .1 .1 .1 .0
+        module _ (fields : Fields s) (is : Good core-data c) where
+          -- a station with the core d and the capture bytes
+          made-of : (d : Core) → Good core-data d → (bytes : Samples) → Good bytes-data bytes → Good Station (withCore (withData h bytes) d)
+          made-of d is-d bytes is-bytes = station-owed (withCore (withData h bytes) d) (is-d, (is-bytes, fields .1 .1))
+
+          was : Good Station h
+          was = made-of c is (s .«rx_data») (fields .1 .0)
+
+          with-rx : {x : Rx} → Good rx-data x → Good core-data (withRx c x)
+          with-rx {x} is-x =
+              let g = owed core.the-type core-laws.the-laws c _ is in
+              owes core.the-type core-laws.the-laws (withRx c x) (g .0, (g .1 .0, (g .1 .1 .0, (g .1 .1 .1 .0, (is-x, g .1 .1 .1 .1 .1)))))
 
           -- In Rx, with the capture d after the sample: its end, which makes the capture `full` and leaves `left` before the core is stored
           module _ (d : Samples) (is-d : Good bytes-data d) (same : d ≡ dataOf s high) (e : c .bus .«bus_state» ≡ states.Rx) where
@@ -257,79 +324,84 @@ module _ {M : Type 1} (𝓤 : URA M) (H : Heap 𝓤) (A : Atoms 𝓤) (at-mem : 
             abbrev left : DaliBitbangPhy
             left = captured s high d
 
-            ending : {vs : Held} → Good rx-data r → goesOn r ≡ false → Lent vs → vs 4 ≡ some (core-data .val c) → vs 11 ≡ some (rx-data .val r) → Walk vs (withData s d) after-sampling Then
+            ending : {vs : Held} → Good rx-data r → goesOn r ≡ false → Lent vs → vs 10 ≡ some (core-data .val c) → vs 13 ≡ some (rx-data .val r) → Walk vs (withData h d) after-sampling Then
             ending is-r many lent has-core has-rx =
                 asks ! fm (known .end-rx .at (c, (r, tt)) (is, (is-r, tt))) (also ! (held ! refl has-core) (also ! (held ! refl has-rx) (end !))) refl (λ is-end.
-                copies ! refl (data-loads (withData s d) lent) (bytes-data .typed d is-d) ∵
+                copies ! refl (data-loads (withData h d) lent) (bytes-data .typed d is-d) ∵
                 asks ! fm (known .with-end .at (d, (r, tt)) (is-d, (is-r, tt))) (also ! (held ! refl refl) (also ! (held ! refl has-rx) (end !))) refl (λ is-full.
                 asks ! fm (known .captured .at (finished c r, (full, tt)) (is-end, (is-full, tt))) (also ! (held ! refl refl) (also ! (held ! refl refl) (end !))) refl (λ good.
-                data-stores (withData s d) full lent is-full (held ! refl refl) ∵
-                event-stores (withData s full) (left .«last_rx») lent good (held ! refl refl) ∵
-                leaf left (finished c r) refl refl lent (station-owed left (station-owes s was .0, (is-full, (station-owes s was .1 .1 .0, (good, tt))))) is-end (captures s high e d same many) refl)))
+                data-stores (withData h d) full lent is-full (held ! refl refl) ∵
+                event-stores (withData h full) (left .«last_rx») lent good (held ! refl refl) ∵
+                leaf left (finished c r) refl refl lent (station-owed left (is, (is-full, (fields .1 .1 .0, (good, tt))))) is-end (captures s high e d same many) refl)))
 
             -- and the sample itself
-            sampling : {vs : Held} → Lent vs → vs 2 ≡ some (vbool high) → vs 4 ≡ some (core-data .val c) → vs 9 ≡ some (rx-data .val (c .rx)) → Walk vs (withData s d) after-filling Then
+            sampling : {vs : Held} → Lent vs → vs 2 ≡ some (vbool high) → vs 10 ≡ some (core-data .val c) → vs 11 ≡ some (rx-data .val (c .rx)) → Walk vs (withData h d) after-filling Then
             sampling lent has-level has-core has-rx =
-                asks ! fm (known .sample .at (c .rx, (high, tt)) (is-rx, (refl, tt))) (also ! (held ! refl has-rx) (also ! (held ! refl has-level) (end !))) refl (λ is-r.
+                asks ! fm (known .sample .at (c .rx, (high, tt)) (rx-of c is, (refl, tt))) (also ! (held ! refl has-rx) (also ! (held ! refl has-level) (end !))) refl (λ is-r.
                 tests ! (goesOn r) refl (part ! (3 ∷ []) refl refl refl (sub ! 3 refl (whole !))) (literal ! (lit ! tt)) tt refl ∵
                 ifs ! (held ! refl refl)
-                (λ few. asks ! fm (known .with-rx .at (c, (r, tt)) (is, (is-r, tt))) (also ! (held ! refl has-core) (also ! (held ! refl refl) (end !))) refl (λ good.
-                leaf (withData s d) (withRx c r) refl refl lent (station-owed (withData s d) (station-owes s was .0, (is-d, station-owes s was .1 .1))) good (goes-on s high e d same few) refl))
+                (λ few. rx-stores (withData h d) r lent is-r (held ! refl refl) ∵ tells (withCore (withData h d) (withRx c r)) c refl has-core refl (made-of (withRx c r) (with-rx is-r) d is-d) (goes-on s high e d same few) refl)
                 (λ many. ending is-r many lent has-core refl))
 
-          idle : c .bus .«bus_state» ≡ states.Idle → Walk (heard-locals states.Idle) s body.s-5 Then
+          idle : c .bus .«bus_state» ≡ states.Idle → Walk (heard-locals states.Idle) h body.s-6 Then
           idle e =
-              chooses ! 0 (tag ! refl refl (vrt ! refl (fld ! refl (stop !)))) refl ∵ copies ! refl (held ! refl refl) (tt, tt) ∵
+              chooses ! 0 (tag ! refl refl (vrt ! refl (fld ! refl (stop !)))) refl ∵ reads-core h refl refl is ∵ copies ! refl (held ! refl refl) (tt, tt) ∵
               ifs ! (held ! refl refl)
-              (λ up. asks ! fm (known .count-idle .at (c, tt) (is, tt)) (also ! (held ! refl refl) (end !)) refl (λ good. leaf s (silent c) refl refl refl was good (counts s high up e) refl))
-              (λ down. asks ! fm (known .tick-idle .at (c, (false, tt)) (is, (refl, tt))) (also ! (held ! refl refl) (also ! (literal ! (false-lit !)) (end !))) refl (λ good. leaf s (idleTick c false) refl refl refl was good (falls s high down e) refl))
+              (λ up. asks ! fm (known .count-idle .at (c, tt) (is, tt)) (also ! (held ! refl refl) (end !)) refl (λ good.
+              bus-stores h (silent c) (counts-bus c) refl (bus-of (silent c) good) (part ! (2 ∷ []) refl refl refl (sub ! 2 refl (whole !))) ∵
+              tells (withCore h (silent c)) (silent c) refl refl refl (made-of (silent c) good (s .«rx_data») (fields .1 .0)) (counts s high up e) refl))
+              (λ down. asks ! fm (known .tick-idle .at (c, (false, tt)) (is, (refl, tt))) (also ! (held ! refl refl) (also ! (literal ! (false-lit !)) (end !))) refl (λ good. leaf h (idleTick c false) refl refl refl was good (falls s high down e) refl))
 
-          receiving : c .bus .«bus_state» ≡ states.Rx → Walk (heard-locals states.Rx) s body.s-5 Then
+          receiving : c .bus .«bus_state» ≡ states.Rx → Walk (heard-locals states.Rx) h body.s-6 Then
           receiving e =
-              chooses ! 1 (tag ! refl refl (vrt ! refl (fld ! refl (stop !)))) refl ∵
-              copies ! refl (part ! (4 ∷ []) {v = rx-data .val (c .rx)} refl refl refl (sub ! 4 refl (whole !))) (rx-data .typed (c .rx) is-rx) ∵
+              chooses ! 1 (tag ! refl refl (vrt ! refl (fld ! refl (stop !)))) refl ∵ reads-core h refl refl is ∵
+              copies ! refl (part ! (4 ∷ []) {v = rx-data .val (c .rx)} refl refl refl (sub ! 4 refl (whole !))) (rx-data .typed (c .rx) (rx-of c is)) ∵
               tests ! (eighth (c .rx)) refl (part ! (2 ∷ []) refl refl refl (sub ! 2 refl (whole !))) (literal ! (lit ! tt)) tt refl ∵
               ifs ! (held ! refl refl)
-              (λ full. copies ! refl (data-loads s refl) (bytes-data .typed (s .«rx_data») (station-owes s was .1 .0)) ∵
-              asks ! fm (known .fill .at (s .«rx_data», (c .rx, (high, tt))) (station-owes s was .1 .0, (is-rx, (refl, tt)))) (also ! (held ! refl refl) (also ! (held ! refl refl) (also ! (held ! refl refl) (end !)))) refl (λ good.
+              (λ full. copies ! refl (data-loads h refl) (bytes-data .typed (s .«rx_data») (fields .1 .0)) ∵
+              asks ! fm (known .fill .at (s .«rx_data», (c .rx, (high, tt))) (fields .1 .0, (rx-of c is, (refl, tt)))) (also ! (held ! refl refl) (also ! (held ! refl refl) (also ! (held ! refl refl) (end !)))) refl (λ good.
               stores-field-last ! b o 1 refl refl (held ! refl refl) refl (bytes-data .typed (withEighth s high) good) ∵
               sampling (withEighth s high) good (fills s high full) e refl refl refl refl))
-              (λ few. sampling (s .«rx_data») (station-owes s was .1 .0) (keeps s high few) e refl refl refl refl)
+              (λ few. sampling (s .«rx_data») (fields .1 .0) (keeps s high few) e refl refl refl refl)
 
-          sending : c .bus .«bus_state» ≡ states.Tx → Walk (heard-locals states.Tx) s body.s-5 Then
+          sending : c .bus .«bus_state» ≡ states.Tx → Walk (heard-locals states.Tx) h body.s-6 Then
           sending e =
-              chooses ! 2 (tag ! refl refl (vrt ! refl (fld ! refl (stop !)))) refl ∵ copies ! refl (hb-loads s refl) (hb-data .typed (s .«tx_hb») (station-owes s was .1 .1 .0)) ∵
-              asks ! fm (known .tick-tx .at (c, (s .«tx_hb», (high, tt))) (is, (station-owes s was .1 .1 .0, (refl, tt)))) (also ! (held ! refl refl) (also ! (held ! refl refl) (also ! (held ! refl refl) (end !)))) refl (λ good.
-              leaf s (txTick c (s .«tx_hb») high) refl refl refl was good (sends s high e) refl)
+              chooses ! 2 (tag ! refl refl (vrt ! refl (fld ! refl (stop !)))) refl ∵ copies ! refl (hb-loads h refl) (hb-data .typed (s .«tx_hb») (fields .1 .1 .0)) ∵ reads-core h refl refl is ∵
+              asks ! fm (known .holds .at (c, (s .«tx_hb», (high, tt))) (is, (fields .1 .1 .0, (refl, tt)))) (also ! (held ! refl refl) (also ! (held ! refl refl) (also ! (held ! refl refl) (end !)))) refl (λ _.
+              ifs ! (held ! refl refl)
+              (λ more. asks ! fm (known .hold-half-bit .at (c, tt) (is, tt)) (also ! (held ! refl refl) (end !)) refl (λ good.
+              tx-stores h (kept c) (holds-tx c) refl (tx-of (kept c) good) (part ! (3 ∷ []) refl refl refl (sub ! 3 refl (whole !))) ∵
+              tells (withCore h (kept c)) (kept c) refl refl refl (made-of (kept c) good (s .«rx_data») (fields .1 .0)) (holds s high e more) refl))
+              (λ _. reads-core h refl refl is ∵
+              asks ! fm (known .tick-tx .at (c, (s .«tx_hb», (high, tt))) (is, (fields .1 .1 .0, (refl, tt)))) (also ! (held ! refl refl) (also ! (held ! refl refl) (also ! (held ! refl refl) (end !)))) refl (λ good.
+              leaf h (txTick c (s .«tx_hb») high) refl refl refl was good (sends s high e) refl)))
 
-          breaking : c .bus .«bus_state» ≡ states.CollisionTx → Walk (heard-locals states.CollisionTx) s body.s-5 Then
+          breaking : c .bus .«bus_state» ≡ states.CollisionTx → Walk (heard-locals states.CollisionTx) h body.s-6 Then
           breaking e =
-              chooses ! 3 (tag ! refl refl (vrt ! refl (fld ! refl (stop !)))) refl ∵
-              asks ! fm (known .tick-collision-tx .at (c, (high, tt)) (is, (refl, tt))) (also ! (held ! refl refl) (also ! (held ! refl refl) (end !))) refl (λ good. leaf s (collisionTick c high) refl refl refl was good (breaks s high e) refl)
+              chooses ! 3 (tag ! refl refl (vrt ! refl (fld ! refl (stop !)))) refl ∵ reads-core h refl refl is ∵
+              asks ! fm (known .tick-collision-tx .at (c, (high, tt)) (is, (refl, tt))) (also ! (held ! refl refl) (also ! (held ! refl refl) (end !))) refl (λ good. leaf h (collisionTick c high) refl refl refl was good (breaks s high e) refl)
 
-          matched : (x : BusState) → c .bus .«bus_state» ≡ x → Walk (heard-locals x) s body.s-5 Then
+          matched : (x : BusState) → c .bus .«bus_state» ≡ x → Walk (heard-locals x) h body.s-6 Then
           matched states.Idle e = idle e
           matched states.Rx e = receiving e
           matched states.Tx e = sending e
           matched states.CollisionTx e = breaking e
 
         -- from the opened loan to the match
-        begins : Good Station s → Walk given s body.t-1 (atRet E Post)
-        begins was =
-            copies ! refl (core-loads s refl) (core-data .typed (s .core) (station-owes s was .0)) ∵
-            asks ! fm (known .heard .at (s .core, (high, tt)) (station-owes s was .0, (refl, tt))) (also ! (held ! refl refl) (also ! (held ! refl refl) (end !))) refl (λ is.
-            copies ! refl (part ! (3 ∷ []) {v = bus-data .val (c .bus)} refl refl refl (sub ! 3 refl (whole !))) (bus-data .typed (c .bus) (is-bus is)) ∵
+        begins : Fields s → Walk given s body.t-1 (atRet E Post)
+        begins fields =
+            reads-core s refl refl (fields .0) ∵
+            asks ! fm (known .heard .at (s .core, (high, tt)) (fields .0, (refl, tt))) (also ! (held ! refl refl) (also ! (held ! refl refl) (end !))) refl (λ is.
+            runs-stores s c (hears-runs s high) refl (runs-of c is) (part ! (5 ∷ []) refl refl refl (sub ! 5 refl (whole !))) ∵
+            copies ! refl (part ! (2 ∷ []) {v = bus-data .val (c .bus)} refl refl refl (sub ! 2 refl (whole !))) (bus-data .typed (c .bus) (bus-of c is)) ∵
             copies ! refl (part ! (1 ∷ []) {v = state-val (c .bus .«bus_state»)} refl refl refl (sub ! 1 refl (whole !)))
-            (enum.lawful state.the-type state-laws.the-laws 𝓤 H A W tt .typed (c .bus .«bus_state») _ (owed bus.the-type bus-laws.the-laws (c .bus) _ (is-bus is) .1 .0) .0) ∵
-            record { go = first ! $ matched was is (c .bus .«bus_state») refl .go })
-          where
-            is-bus : Good core-data c → Good bus-data (c .bus)
-            is-bus is = owed core.the-type core-laws.the-laws c _ is .1 .1 .1 .0
+            (enum.lawful state.the-type state-laws.the-laws 𝓤 H A W tt .typed (c .bus .«bus_state») _ (owed bus.the-type bus-laws.the-laws (c .bus) _ (bus-of c is) .1 .0) .0) ∵
+            record { go = first ! $ matched fields is (c .bus .«bus_state») refl .go })
 
       walk : ent 𝓤 (⋆ 𝓤 H A (Loan Station κ q γ b o s)) (WpFn 𝓤 H C Λ code.function (vptr b o ∷ vbool high ∷ []) Post)
       walk =
           qed W (Loan Station κ q γ b o s) ∵ enter ! C Λ code.function (vptr b o ∷ vbool high ∷ []) _ $
-          alloc-all ! room (λ l. params1 ! $ pass1 ! (init ! 2 refl (tt, tt)) $ pass1 ! (init ! 4 refl (tt, tt)) $ pass0 ! $ opens-loan ! Station refl b o s (begins l) .go)
+          alloc-all ! room (λ l. params1 ! $ pass1 ! (init ! 2 refl (tt, tt)) $ pass1 ! (init ! 4 refl (tt, tt)) $ pass0 ! $ opens-loan ! Station refl b o s (λ is. begins l (station-owes s is)) .go)
 
   meets : (𝓣 : Tables 𝓤 H) → Known (𝓣 .C) → Meets 𝓤 H A own.signature (WpFn 𝓤 H (𝓣 .C) (𝓣 .Λ) code.function) (own.spec 𝓤 H A at-mem run)
   meets 𝓣 known =
@@ -349,11 +421,12 @@ tick-spec 𝓤 H 𝓜 𝓖 𝓡 =
       heard = cites W 𝓜 𝓡 code.env fm code.calls-machine·Core·heard (heard-met.met 𝓤 H 𝓜 𝓖 𝓡);
       count-idle = cites W 𝓜 𝓡 code.env fm code.calls-machine·Core·count-idle (count-idle-met.met 𝓤 H 𝓜 𝓖 𝓡);
       tick-idle = cites W 𝓜 𝓡 code.env fm code.calls-machine·Core·tick-idle (tick-idle-met.met 𝓤 H 𝓜 𝓖 𝓡);
+      holds = cites W 𝓜 𝓡 code.env fm code.calls-machine·Core·holds (holds-met.met 𝓤 H 𝓜 𝓖 𝓡);
+      hold-half-bit = cites W 𝓜 𝓡 code.env fm code.calls-machine·Core·hold-half-bit (hold-half-bit-met.met 𝓤 H 𝓜 𝓖 𝓡);
       tick-tx = cites W 𝓜 𝓡 code.env fm code.calls-machine·Core·tick-tx (tick-tx-met.met 𝓤 H 𝓜 𝓖 𝓡);
       tick-collision-tx = cites W 𝓜 𝓡 code.env fm code.calls-machine·Core·tick-collision-tx (tick-collision-tx-met.met 𝓤 H 𝓜 𝓖 𝓡);
       fill = cites W 𝓜 𝓡 code.env fm code.calls-fsm·fill (fill-met.met 𝓤 H 𝓜 𝓖 𝓡);
       sample = cites W 𝓜 𝓡 code.env fm code.calls-fsm·sample (sample-met.met 𝓤 H 𝓜 𝓖 𝓡);
-      with-rx = cites W 𝓜 𝓡 code.env fm code.calls-fsm·with-rx (with-rx-met.met 𝓤 H 𝓜 𝓖 𝓡);
       end-rx = cites W 𝓜 𝓡 code.env fm code.calls-fsm·end-rx (end-rx-met.met 𝓤 H 𝓜 𝓖 𝓡);
       with-end = cites W 𝓜 𝓡 code.env fm code.calls-fsm·with-end (with-end-met.met 𝓤 H 𝓜 𝓖 𝓡);
       captured = cites W 𝓜 𝓡 code.env fm code.calls-fsm·captured (captured-met.met 𝓤 H 𝓜 𝓖 𝓡);

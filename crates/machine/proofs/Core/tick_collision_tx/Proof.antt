@@ -18,7 +18,7 @@ returns c = simp (← c .leave-collision-tx .ensures, on-true (le-leb _ _ (c .be
 
 returns-2 : tie.Need-returns-2
 unfolding collisionTick
-returns-2 c = simp (on-false (lt-leb _ _ (c .if1 .left)), ← c .before .wrapping-inc8 .ensures)
+returns-2 c = simp (on-false (lt-leb _ _ (c .before .if1 .left)), ← c .before .before .wrapping-inc8 .ensures)
 
 pub tick-collision-tx-spec : {M : Type 1} → statement M
 tick-collision-tx-spec =
