@@ -1,4 +1,4 @@
-// The tick of a station that is lent for change, as firmware calls it from an interrupt: nothing is copied that does not change.
+// The tick of a station that is lent for change, as firmware calls it from an interrupt: no station is copied.
 ghost use mathlib.Core.Path.{_≡_};
 ghost use Rattle.fsm.specs.Ticking.{ticked};
 use fsm::BusState;
