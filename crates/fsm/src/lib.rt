@@ -112,10 +112,10 @@ pub fn restart_gate_for(release_to_edge_ticks: u8) -> u8
 // What a station keeps of its last event: what the machine sets. The filler is always 0: a gap of one byte in its place would be copied byte by
 // byte at each tick.
 pub struct LastRx {
-    pub samples: Samples,
-    pub sample_count: u16,
-    pub pre_idle_ticks: u8,
-    pub filler: u8,
+    samples: Samples,
+    sample_count: u16,
+    pre_idle_ticks: u8,
+    filler: u8,
 }
 
 // The fields are public for `in_place`, which changes a station that it is lent. No promise rests on who wrote them.
