@@ -6,10 +6,10 @@ use Rattle.fsm.proofs.restart_gate_for.Reads as restart-gate-for
 use Rattle.fsm.proofs.sample.Reads as sample
 use Rattle.fsm.proofs.fill.Reads as fill
 use Rattle.fsm.proofs.with_end.Reads as with-end
-use Rattle.fsm.proofs.captured.Reads as captured
 use Rattle.fsm.proofs.end_rx.Reads as end-rx
 use Rattle.fsm.proofs.DaliBitbangPhy.new.Reads as new-station
 use Rattle.fsm.proofs.DaliBitbangPhy.set_collision_policy.Reads as set-collision-policy
+use Rattle.fsm.proofs.DaliBitbangPhy.finish_rx_and_notify.Reads as finish-rx-and-notify
 use Rattle.fsm.proofs.DaliBitbangPhy.tick.Reads as tick
 use Rattle.fsm.proofs.DaliBitbangPhy.start_tx.Reads as start-tx
 use Rattle.fsm.proofs.DaliBitbangPhy.start_answer.Reads as start-answer
@@ -43,9 +43,6 @@ fill-sole κs a x = named _
 pub with-end-sole : (κs : _) (a : _) (x : _) → Only (λ r. with-end.Post κs a r x)
 with-end-sole κs a x = named _
 
-pub captured-sole : (κs : _) (a : _) (x : _) → Only (λ r. captured.Post κs a r x)
-captured-sole κs a x = named _
-
 pub end-rx-sole : (κs : _) (a : _) (x : _) → Only (λ r. end-rx.Post κs a r x)
 end-rx-sole κs a x = named _
 
@@ -54,6 +51,9 @@ new-station-sole κs a x = named _
 
 pub set-collision-policy-sole : (κs : _) (a : _) (x : _) → Only (λ r. set-collision-policy.Post κs a r x)
 set-collision-policy-sole κs a x = named _
+
+pub finish-rx-and-notify-sole : (κs : _) (a : _) (x : _) → Only (λ r. finish-rx-and-notify.Post κs a r x)
+finish-rx-and-notify-sole κs a x = named _
 
 pub tick-sole : (κs : _) (a : _) (x : _) → Only (λ r. tick.Post κs a r x)
 tick-sole κs a x = named _

@@ -111,7 +111,7 @@ pub fn restart_gate_for(release_to_edge_ticks: u8) -> u8
 
 // What a station keeps of its last event: what the machine sets. The filler is always 0: a gap of one byte in its place would be copied byte by
 // byte at each tick.
-pub struct LastRx {
+struct LastRx {
     samples: Samples,
     sample_count: u16,
     pre_idle_ticks: u8,
@@ -123,7 +123,7 @@ pub struct DaliBitbangPhy {
     pub core: Core,
     pub rx_data: Samples,
     pub tx_hb: TxHb,
-    pub last_rx: LastRx,
+    last_rx: LastRx,
 }
 
 // Calls that change a station give it back beside their answer.
@@ -256,7 +256,7 @@ fn with_rx(mut core: Core, rx: Rx) -> Core
 }
 
 // What is told of a capture that has ended.
-pub fn captured(core: Core, samples: Samples) -> LastRx
+fn captured(core: Core, samples: Samples) -> LastRx
     ensures { λ r. ⌜ r ≡ lastOf core samples ⌝ }
 {
     LastRx {
@@ -421,7 +421,7 @@ impl DaliBitbangPhy {
     }
 
     // The event is ready.
-    fn finish_rx_and_notify(mut self, core: Core, rx_data: Samples) -> DaliBitbangPhy
+    pub fn finish_rx_and_notify(mut self, core: Core, rx_data: Samples) -> DaliBitbangPhy
         ensures { λ r. ⌜ r ≡ notified self core «rx_data» ⌝ }
     {
         let last_rx = captured(core, rx_data);

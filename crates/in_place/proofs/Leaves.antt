@@ -16,10 +16,9 @@ use Rattle.machine.specs.declared.BusState.the-variants as bus
 use Rattle.machine.specs.declared.Core.{Core}
 use Rattle.machine.specs.declared.Rx.{Rx}
 use Rattle.fsm.specs.declared.DaliBitbangPhy.{DaliBitbangPhy}
-use Rattle.fsm.specs.declared.LastRx.{LastRx}
 use Rattle.fsm.specs.declared.Ticked.{Ticked}
 use Rattle.fsm.specs.Station.{withCore, stationOf}
-use Rattle.fsm.specs.Rx.{shifted, eighth, sampled, filled, goesOn, finished, lastOf, notified, wentOn, rxTick}
+use Rattle.fsm.specs.Rx.{shifted, eighth, sampled, filled, goesOn, finished, notified, wentOn, rxTick}
 use Rattle.fsm.specs.Ticking.{actOf, ticked}
 use Rattle.fsm.proofs.Ticks.{acted}
 
@@ -27,12 +26,9 @@ use Rattle.fsm.proofs.Ticks.{acted}
 abbrev pub driving : DaliBitbangPhy → Ticked
 driving t = record { station = t; «driven_high» = t .core .bus .«driven_high» }
 
--- a station with another capture, and with another event
+-- a station with another capture
 abbrev pub withData : DaliBitbangPhy → Samples → DaliBitbangPhy
 withData s bytes = stationOf (s .core) bytes (s .«tx_hb») (s .«last_rx»)
-
-abbrev pub withEvent : DaliBitbangPhy → LastRx → DaliBitbangPhy
-withEvent s event = stationOf (s .core) (s .«rx_data») (s .«tx_hb») event
 
 -- ---- the one group that changes
 pub counts-bus : (c : Core) → silent c ≡ withBus c (silent c .bus)
@@ -101,18 +97,23 @@ module _ (s : DaliBitbangPhy) (high : Bool) where
   unfolding filled
   keeps e = sym (on-false e _ _)
 
-  -- the capture with its end, and the station that has its event and not yet its core
+  -- the capture with its end, and the station that has its event
   abbrev pub withEnd : Samples → Samples
   withEnd bytes = withByte bytes (rxOf .«rx_pos») 255
 
   abbrev pub captured : Samples → DaliBitbangPhy
-  captured bytes = withEvent (withData hearing (withEnd bytes)) (lastOf (finished hears rxOf) (withEnd bytes))
+  captured bytes = notified (withData hearing bytes) (finished hears rxOf) (withEnd bytes)
+
+  -- its core is that of the capture's end
+  pub captured-core : (bytes : Samples) → captured bytes .core ≡ finished hears rxOf
+  unfolding notified
+  captured-core bytes = refl
 
   module _ (e : Is bus.Rx) (bytes : Samples) (same : bytes ≡ dataOf) where
     pub goes-on : goesOn rxOf ≡ true → driving (withCore (withData s bytes) (withRx hears rxOf)) ≡ ticked s high
     unfolding actOf rxTick wentOn
     goes-on g = leaves bus.Rx e _ (ap (λ (x : Samples). withCore (withData s x) (withRx hears rxOf)) same ∙ sym (on-true g _ _))
 
-    pub ends : goesOn rxOf ≡ false → driving (withCore (captured bytes) (finished hears rxOf)) ≡ ticked s high
+    pub ends : goesOn rxOf ≡ false → driving (captured bytes) ≡ ticked s high
     unfolding actOf rxTick wentOn notified
     ends g = leaves bus.Rx e _ (ap (λ (x : Samples). notified s (finished hears rxOf) (withEnd x)) same ∙ sym (on-false g _ _))

@@ -42,10 +42,8 @@ pub fn tick(station: &mut DaliBitbangPhy, bus_is_high: bool) -> bool
             }
             let next = fsm::end_rx(core, rx);
             let samples = fsm::with_end((*station).rx_data, rx);
-            let event = fsm::captured(next, samples);
-            (*station).rx_data = samples;
-            (*station).last_rx = event;
-            (*station).core = next;
+            let ended = (*station).finish_rx_and_notify(next, samples);
+            *station = ended;
             return next.bus.driven_high;
         }
         BusState::Tx => {

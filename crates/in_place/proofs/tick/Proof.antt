@@ -2,7 +2,7 @@
 -- by hand, with walk's steps: the loan is opened, the core hears the level and its runs are stored, and each arm of the match reads the core again,
 -- stores the group that it changes or all of it, and ends in `tells`, which closes the loan. All that is known of a callee is what it answers
 -- (`Known`). That what each arm leaves is a tick, and which group alone it changes, is Leaves's. Assumes nothing.
-use mathlib.Core.Path.{_≡_, refl, ap, subst}
+use mathlib.Core.Path.{_≡_, refl, sym, ap, subst}
 use Prim.Native.Nat.{ℕ, min}
 use mathlib.Core.Bool.{Bool, false}
 use mathlib.Core.Option.{some}
@@ -26,10 +26,13 @@ use types.Match.{vrt}
 use sound.WpLaws.{FmC, fmOf}
 use denote.Memory.{pointee}
 use denote.Enum.Laws as enum
-use denote.Struct.Laws.{owes, owed}
+use denote.Laws.{valss}
+use denote.Struct.Struct.{AreAll}
+use denote.Struct.Declared as declared
+use denote.Struct.Laws.{spells, owes, owed}
 use denote.Triple.Spec.{Meets, tripleOf}
 use denote.Triple.Table.{entered}
-use Rattle.walk.proofs.Walk.{Data, Good, Computes, cites, struct, truth, Held, nothing-more, put, blocks, typeOf, inside, alloc-all, At, Gets, held, part, tag, literal, end, also, copies, tests, asks, ifs, chooses, field-behind, stores-within, stores-field, stores-field-last, Loan, Opened, opens-loan, closes-loan, leaves-within, value}
+use Rattle.walk.proofs.Walk.{Data, Good, Computes, cites, struct, truth, Held, nothing-more, put, blocks, typeOf, inside, alloc-all, At, Gets, held, part, tag, literal, end, also, copies, tests, asks, ifs, chooses, behind, stores, field-behind, stores-within, stores-field, stores-field-last, Loan, Opened, opens-loan, closes-loan, leaves-within, value}
 use Rattle.capture.specs.declared.Samples.{Samples}
 use Rattle.capture.specs.Samples.{withByte}
 use Rattle.capture.proofs.Samples as samples
@@ -82,20 +85,17 @@ use Rattle.fsm.proofs.end_rx.Symbol as end-rx-code
 use Rattle.fsm.proofs.end_rx.Met as end-rx-met
 use Rattle.fsm.proofs.with_end.Symbol as with-end-code
 use Rattle.fsm.proofs.with_end.Met as with-end-met
-use Rattle.fsm.proofs.captured.Symbol as captured-code
-use Rattle.fsm.proofs.captured.Met as captured-met
+use Rattle.fsm.proofs.DaliBitbangPhy.finish_rx_and_notify.Symbol as finish-code
+use Rattle.fsm.proofs.DaliBitbangPhy.finish_rx_and_notify.Met as finish-met
 use Rattle.fsm.specs.Station.{withCore}
-use Rattle.fsm.specs.Rx.{shifted, eighth, sampled, goesOn, finished, lastOf}
+use Rattle.fsm.specs.Rx.{shifted, eighth, sampled, goesOn, finished, notified}
 use Rattle.fsm.specs.Ticking.{ticked}
-use Rattle.fsm.specs.declared.LastRx.{LastRx}
 use Rattle.fsm.specs.declared.DaliBitbangPhy.{DaliBitbangPhy}
 use Rattle.fsm.specs.declared.Ticked.{Ticked}
 use Rattle.in_place.proofs.Lent.{two, meets as lent-meets}
-use Rattle.in_place.proofs.Leaves.{driving, withData, withEvent, hears, hearing, hears-runs, counts-bus, holds-tx, counts, falls, holds, sends, breaks, rxOf, dataOf, withEighth, fills, keeps, withEnd, captured, goes-on, ends as captures}
+use Rattle.in_place.proofs.Leaves.{driving, withData, hears, hearing, hears-runs, counts-bus, holds-tx, counts, falls, holds, sends, breaks, rxOf, dataOf, withEighth, fills, keeps, withEnd, captured, captured-core, goes-on, ends as captures}
 use Rattle.fsm.proofs.DaliBitbangPhy as phy
 use Rattle.fsm.proofs.DaliBitbangPhy.Laws as phy-laws
-use Rattle.fsm.proofs.LastRx as last
-use Rattle.fsm.proofs.LastRx.Laws as last-laws
 use Rattle.in_place.proofs.tick as own
 use Rattle.in_place.proofs.tick.Key.{name as #own}
 use Rattle.in_place.proofs.tick.Statement.{statement}
@@ -107,8 +107,8 @@ abbrev room : List Local
 room =
     value tyBool ∷ value (tyRef (named 0) mut (pointee (phy.the-row .written))) ∷ value tyBool ∷ value core-laws.mir ∷ value core-laws.mir ∷ value bus-laws.mir ∷ value state-laws.mir ∷
     value core-laws.mir ∷ value core-laws.mir ∷ value core-laws.mir ∷ value core-laws.mir ∷ value rx-laws.mir ∷ value samples-laws.mir ∷ value rx-laws.mir ∷ value core-laws.mir ∷ value samples-laws.mir ∷
-    value last-laws.mir ∷ value hb-laws.mir ∷ value core-laws.mir ∷ value core-laws.mir ∷ value core-laws.mir ∷ value core-laws.mir ∷ value core-laws.mir ∷ value core-laws.mir ∷ value tyBool ∷ value tyBool ∷
-    value samples-laws.mir ∷ value samples-laws.mir ∷ value tyBool ∷ []
+    value phy-laws.mir ∷ value hb-laws.mir ∷ value core-laws.mir ∷ value core-laws.mir ∷ value core-laws.mir ∷ value core-laws.mir ∷ value core-laws.mir ∷ value core-laws.mir ∷ value tyBool ∷ value tyBool ∷
+    value samples-laws.mir ∷ value samples-laws.mir ∷ value phy-laws.mir ∷ value tyBool ∷ []
 
 module _ {M : Type 1} (𝓤 : URA M) (H : Heap 𝓤) (A : Atoms 𝓤) (at-mem : Memory → SProp 𝓤) (run : Routine → Fun 𝓤) (W : Given 𝓤 H A) where
   abbrev level-data : Data 𝓤 H A
@@ -138,9 +138,6 @@ module _ {M : Type 1} (𝓤 : URA M) (H : Heap 𝓤) (A : Atoms 𝓤) (at-mem : 
   abbrev bytes-data : Data 𝓤 H A
   bytes-data = struct 𝓤 H A W samples.the-type samples-laws.the-laws samples-laws.the-plain
 
-  abbrev event-data : Data 𝓤 H A
-  event-data = struct 𝓤 H A W last.the-type last-laws.the-laws last-laws.the-plain
-
   abbrev state-val : BusState → Val
   state-val = enum.val state.the-type state-laws.the-laws
 
@@ -157,11 +154,11 @@ module _ {M : Type 1} (𝓤 : URA M) (H : Heap 𝓤) (A : Atoms 𝓤) (at-mem : 
     sample : Computes C sample-code.name (rx-data ∷ level-data ∷ []) rx-data (λ a. sampled (a .0) (a .1 .0))
     end-rx : Computes C end-rx-code.name (core-data ∷ rx-data ∷ []) core-data (λ a. finished (a .0) (a .1 .0))
     with-end : Computes C with-end-code.name (bytes-data ∷ rx-data ∷ []) bytes-data (λ a. withByte (a .0) (a .1 .0 .«rx_pos») 255)
-    captured : Computes C captured-code.name (core-data ∷ bytes-data ∷ []) event-data (λ a. lastOf (a .0) (a .1 .0))
+    finish : Computes C finish-code.name (Station ∷ core-data ∷ bytes-data ∷ []) Station (λ a. notified (a .0) (a .1 .0) (a .1 .1 .0))
 
-  -- what is known of a station's fields
+  -- what is known of a station's fields: its core, its capture, its half-bits and, of a type that is fsm's own, its event
   abbrev Fields : DaliBitbangPhy → Type 0
-  Fields t = Good core-data (t .core) × (Good bytes-data (t .«rx_data») × (Good hb-data (t .«tx_hb») × (Good event-data (t .«last_rx») × Unit {0})))
+  Fields t = AreAll (declared.fields phy.the-type) (phy.the-type .to t) (valss (declared.fields phy.the-type) (spells (phy.the-type .parts) phy-laws.the-laws) (phy.the-type .to t))
 
   station-owes : (t : DaliBitbangPhy) → Good Station t → Fields t
   station-owes t is = owed phy.the-type phy-laws.the-laws t _ is
@@ -240,12 +237,6 @@ module _ {M : Type 1} (𝓤 : URA M) (H : Heap 𝓤) (A : Atoms 𝓤) (at-mem : 
         core-stores : (t : DaliBitbangPhy) (d : Core) {vs : Held} {x : Operand} {a : Body} {Q : Kit.Post 𝓤 H} → Lent vs → Good core-data d → Holds-at vs t x (core-data .val d) → Walk vs (withCore t d) a Q → Walk vs t (seq (into 0 x) a) Q
         core-stores t d r is g w = stores-field ! b o 0 refl r g refl (core-data .typed d is) w
 
-        data-stores : (t : DaliBitbangPhy) (d : Samples) {vs : Held} {x : Operand} {a : Body} {Q : Kit.Post 𝓤 H} → Lent vs → Good bytes-data d → Holds-at vs t x (bytes-data .val d) → Walk vs (withData t d) a Q → Walk vs t (seq (into 1 x) a) Q
-        data-stores t d r is g w = stores-field ! b o 1 refl r g refl (bytes-data .typed d is) w
-
-        event-stores : (t : DaliBitbangPhy) (d : LastRx) {vs : Held} {x : Operand} {a : Body} {Q : Kit.Post 𝓤 H} → Lent vs → Good event-data d → Holds-at vs t x (event-data .val d) → Walk vs (withEvent t d) a Q → Walk vs t (seq (into 3 x) a) Q
-        event-stores t d r is g w = stores-field ! b o 3 refl r g refl (event-data .typed d is) w
-
         -- a statement that stores x into the core's group k, before a; the core is then d, which differs in that group alone
         abbrev into-core : ℕ → Operand → Body
         into-core k x = assign (place 1 (deref phy-laws.mir ∷ field 0 ∷ field k ∷ [])) (rvOpd x)
@@ -316,7 +307,7 @@ module _ {M : Type 1} (𝓤 : URA M) (H : Heap 𝓤) (A : Atoms 𝓤) (at-mem : 
               let g = owed core.the-type core-laws.the-laws c _ is in
               owes core.the-type core-laws.the-laws (withRx c x) (g .0, (g .1 .0, (g .1 .1 .0, (g .1 .1 .1 .0, (is-x, g .1 .1 .1 .1 .1)))))
 
-          -- In Rx, with the capture d after the sample: its end, which makes the capture `full` and leaves `left` before the core is stored
+          -- In Rx, with the capture d after the sample: its end, which makes the capture `full` and leaves `left`
           module _ (d : Samples) (is-d : Good bytes-data d) (same : d ≡ dataOf s high) (e : c .bus .«bus_state» ≡ states.Rx) where
             abbrev full : Samples
             full = withEnd s high d
@@ -324,15 +315,18 @@ module _ {M : Type 1} (𝓤 : URA M) (H : Heap 𝓤) (A : Atoms 𝓤) (at-mem : 
             abbrev left : DaliBitbangPhy
             left = captured s high d
 
+            had : Good Station (withData h d)
+            had = made-of c is d is-d
+
             ending : {vs : Held} → Good rx-data r → goesOn r ≡ false → Lent vs → vs 10 ≡ some (core-data .val c) → vs 13 ≡ some (rx-data .val r) → Walk vs (withData h d) after-sampling Then
             ending is-r many lent has-core has-rx =
                 asks ! fm (known .end-rx .at (c, (r, tt)) (is, (is-r, tt))) (also ! (held ! refl has-core) (also ! (held ! refl has-rx) (end !))) refl (λ is-end.
                 copies ! refl (data-loads (withData h d) lent) (bytes-data .typed d is-d) ∵
                 asks ! fm (known .with-end .at (d, (r, tt)) (is-d, (is-r, tt))) (also ! (held ! refl refl) (also ! (held ! refl has-rx) (end !))) refl (λ is-full.
-                asks ! fm (known .captured .at (finished c r, (full, tt)) (is-end, (is-full, tt))) (also ! (held ! refl refl) (also ! (held ! refl refl) (end !))) refl (λ good.
-                data-stores (withData h d) full lent is-full (held ! refl refl) ∵
-                event-stores (withData h full) (left .«last_rx») lent good (held ! refl refl) ∵
-                leaf left (finished c r) refl refl lent (station-owed left (is, (is-full, (fields .1 .1 .0, (good, tt))))) is-end (captures s high e d same many) refl)))
+                copies ! refl (behind ! b o [] refl lent refl (whole !)) (Station .typed (withData h d) had) ∵
+                asks ! fm (known .finish .at (withData h d, (finished c r, (full, tt))) (had, (is-end, (is-full, tt)))) (also ! (held ! refl refl) (also ! (held ! refl refl) (also ! (held ! refl refl) (end !)))) refl (λ good.
+                stores ! b o [] refl lent (held ! refl refl) refl (whole !) (Station .typed left good) ∵
+                tells left (finished c r) refl refl (ap (λ (y : Core). y .bus .«driven_high») (sym (captured-core s high d))) good (captures s high e d same many) refl)))
 
             -- and the sample itself
             sampling : {vs : Held} → Lent vs → vs 2 ≡ some (vbool high) → vs 10 ≡ some (core-data .val c) → vs 11 ≡ some (rx-data .val (c .rx)) → Walk vs (withData h d) after-filling Then
@@ -429,5 +423,5 @@ tick-spec 𝓤 H 𝓜 𝓖 𝓡 =
       sample = cites W 𝓜 𝓡 code.env fm code.calls-fsm·sample (sample-met.met 𝓤 H 𝓜 𝓖 𝓡);
       end-rx = cites W 𝓜 𝓡 code.env fm code.calls-fsm·end-rx (end-rx-met.met 𝓤 H 𝓜 𝓖 𝓡);
       with-end = cites W 𝓜 𝓡 code.env fm code.calls-fsm·with-end (with-end-met.met 𝓤 H 𝓜 𝓖 𝓡);
-      captured = cites W 𝓜 𝓡 code.env fm code.calls-fsm·captured (captured-met.met 𝓤 H 𝓜 𝓖 𝓡);
+      finish = cites W 𝓜 𝓡 code.env fm code.calls-fsm·DaliBitbangPhy·finish-rx-and-notify (finish-met.met 𝓤 H 𝓜 𝓖 𝓡);
     }))
