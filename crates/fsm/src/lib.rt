@@ -118,7 +118,7 @@ struct LastRx {
     filler: u8,
 }
 
-// The fields are public for `in_place`, which changes a station that it is lent. No promise rests on who wrote them.
+// Three fields are public for `in_place`, which changes a station that it is lent. No promise rests on who wrote them.
 pub struct DaliBitbangPhy {
     pub core: Core,
     pub rx_data: Samples,

@@ -38,7 +38,7 @@ use Rattle.capture.specs.Samples.{withByte}
 use Rattle.capture.proofs.Samples as samples
 use Rattle.capture.proofs.Samples.Laws as samples-laws
 use Rattle.machine.specs.Runs.{heardOf}
-use Rattle.machine.specs.Fields.{withTx, withRuns, withBus, withRx}
+use Rattle.machine.specs.Fields.{withRx}
 use Rattle.machine.specs.Idle.{silent, idleTick}
 use Rattle.machine.specs.Sending.{txStep, isHold, txTick, held as kept}
 use Rattle.machine.specs.Collision.{collisionTick}
@@ -237,21 +237,9 @@ module _ {M : Type 1} (𝓤 : URA M) (H : Heap 𝓤) (A : Atoms 𝓤) (at-mem : 
         core-stores : (t : DaliBitbangPhy) (d : Core) {vs : Held} {x : Operand} {a : Body} {Q : Kit.Post 𝓤 H} → Lent vs → Good core-data d → Holds-at vs t x (core-data .val d) → Walk vs (withCore t d) a Q → Walk vs t (seq (into 0 x) a) Q
         core-stores t d r is g w = stores-field ! b o 0 refl r g refl (core-data .typed d is) w
 
-        -- a statement that stores x into the core's group k, before a; the core is then d, which differs in that group alone
-        abbrev into-core : ℕ → Operand → Body
-        into-core k x = assign (place 1 (deref phy-laws.mir ∷ field 0 ∷ field k ∷ [])) (rvOpd x)
-
-        tx-stores : (t : DaliBitbangPhy) (d : Core) {vs : Held} {x : Operand} {a : Body} {Q : Kit.Post 𝓤 H} → d ≡ withTx (t .core) (d .tx) → Lent vs → Good tx-data (d .tx) → Holds-at vs t x (tx-data .val (d .tx)) → Walk vs (withCore t d) a Q → Walk vs t (seq (into-core 3 x) a) Q
-        tx-stores t d {vs} {a = a} {Q} only r is g w = stores-within ! b o 0 3 refl r g refl refl refl (tx-data .typed (d .tx) is) (subst (λ (y : Core). Walk vs (withCore t y) a Q) only w)
-
-        bus-stores : (t : DaliBitbangPhy) (d : Core) {vs : Held} {x : Operand} {a : Body} {Q : Kit.Post 𝓤 H} → d ≡ withBus (t .core) (d .bus) → Lent vs → Good bus-data (d .bus) → Holds-at vs t x (bus-data .val (d .bus)) → Walk vs (withCore t d) a Q → Walk vs t (seq (into-core 2 x) a) Q
-        bus-stores t d {vs} {a = a} {Q} only r is g w = stores-within ! b o 0 2 refl r g refl refl refl (bus-data .typed (d .bus) is) (subst (λ (y : Core). Walk vs (withCore t y) a Q) only w)
-
-        rx-stores : (t : DaliBitbangPhy) (d : Rx) {vs : Held} {x : Operand} {a : Body} {Q : Kit.Post 𝓤 H} → Lent vs → Good rx-data d → Holds-at vs t x (rx-data .val d) → Walk vs (withCore t (withRx (t .core) d)) a Q → Walk vs t (seq (into-core 4 x) a) Q
-        rx-stores t d r is g w = stores-within ! b o 0 4 refl r g refl refl refl (rx-data .typed d is) w
-
-        runs-stores : (t : DaliBitbangPhy) (d : Core) {vs : Held} {x : Operand} {a : Body} {Q : Kit.Post 𝓤 H} → d ≡ withRuns (t .core) (d .runs) → Lent vs → Good runs-data (d .runs) → Holds-at vs t x (runs-data .val (d .runs)) → Walk vs (withCore t d) a Q → Walk vs t (seq (into-core 5 x) a) Q
-        runs-stores t d {vs} {a = a} {Q} only r is g w = stores-within ! b o 0 5 refl r g refl refl refl (runs-data .typed (d .runs) is) (subst (λ (y : Core). Walk vs (withCore t y) a Q) only w)
+        -- after a group of the core is stored: the core is d, which differs from the one before in that group alone
+        so-left : (t : DaliBitbangPhy) (d : Core) {e : Core} {vs : Held} {a : Body} {Q : Kit.Post 𝓤 H} → d ≡ e → Walk vs (withCore t d) a Q → Walk vs (withCore t e) a Q
+        so-left t d {vs = vs} {a} {Q} only w = subst (λ (y : Core). Walk vs (withCore t y) a Q) only w
 
         -- the end of each way: the station drives the level of the core in local i, and that is the result
         tells : (t : DaliBitbangPhy) (d : Core) {vs : Held} {i : ℕ} → typeOf room i ≡ some core-laws.mir → vs i ≡ some (core-data .val d) → d .bus .«driven_high» ≡ driven t → Good Station t → driving t ≡ ticked s high
@@ -334,7 +322,7 @@ module _ {M : Type 1} (𝓤 : URA M) (H : Heap 𝓤) (A : Atoms 𝓤) (at-mem : 
                 asks ! fm (known .sample .at (c .rx, (high, tt)) (rx-of c is, (refl, tt))) (also ! (held ! refl has-rx) (also ! (held ! refl has-level) (end !))) refl (λ is-r.
                 tests ! (goesOn r) refl (part ! (3 ∷ []) refl refl refl (sub ! 3 refl (whole !))) (literal ! (lit ! tt)) tt refl ∵
                 ifs ! (held ! refl refl)
-                (λ few. rx-stores (withData h d) r lent is-r (held ! refl refl) ∵ tells (withCore (withData h d) (withRx c r)) c refl has-core refl (made-of (withRx c r) (with-rx is-r) d is-d) (goes-on s high e d same few) refl)
+                (λ few. stores-within ! b o 0 4 refl lent (held ! refl refl) refl refl refl (rx-data .typed r is-r) ∵ tells (withCore (withData h d) (withRx c r)) c refl has-core refl (made-of (withRx c r) (with-rx is-r) d is-d) (goes-on s high e d same few) refl)
                 (λ many. ending is-r many lent has-core refl))
 
           idle : c .bus .«bus_state» ≡ states.Idle → Walk (heard-locals states.Idle) h body.s-6 Then
@@ -342,7 +330,7 @@ module _ {M : Type 1} (𝓤 : URA M) (H : Heap 𝓤) (A : Atoms 𝓤) (at-mem : 
               chooses ! 0 (tag ! refl refl (vrt ! refl (fld ! refl (stop !)))) refl ∵ reads-core h refl refl is ∵ copies ! refl (held ! refl refl) (tt, tt) ∵
               ifs ! (held ! refl refl)
               (λ up. asks ! fm (known .count-idle .at (c, tt) (is, tt)) (also ! (held ! refl refl) (end !)) refl (λ good.
-              bus-stores h (silent c) (counts-bus c) refl (bus-of (silent c) good) (part ! (2 ∷ []) refl refl refl (sub ! 2 refl (whole !))) ∵
+              stores-within ! b o 0 2 refl refl (part ! (2 ∷ []) refl refl refl (sub ! 2 refl (whole !))) refl refl refl (bus-data .typed (silent c .bus) (bus-of (silent c) good)) ∵ so-left h (silent c) (counts-bus c) ∵
               tells (withCore h (silent c)) (silent c) refl refl refl (made-of (silent c) good (s .«rx_data») (fields .1 .0)) (counts s high up e) refl))
               (λ down. asks ! fm (known .tick-idle .at (c, (false, tt)) (is, (refl, tt))) (also ! (held ! refl refl) (also ! (literal ! (false-lit !)) (end !))) refl (λ good. leaf h (idleTick c false) refl refl refl was good (falls s high down e) refl))
 
@@ -364,7 +352,7 @@ module _ {M : Type 1} (𝓤 : URA M) (H : Heap 𝓤) (A : Atoms 𝓤) (at-mem : 
               asks ! fm (known .holds .at (c, (s .«tx_hb», (high, tt))) (is, (fields .1 .1 .0, (refl, tt)))) (also ! (held ! refl refl) (also ! (held ! refl refl) (also ! (held ! refl refl) (end !)))) refl (λ _.
               ifs ! (held ! refl refl)
               (λ more. asks ! fm (known .hold-half-bit .at (c, tt) (is, tt)) (also ! (held ! refl refl) (end !)) refl (λ good.
-              tx-stores h (kept c) (holds-tx c) refl (tx-of (kept c) good) (part ! (3 ∷ []) refl refl refl (sub ! 3 refl (whole !))) ∵
+              stores-within ! b o 0 3 refl refl (part ! (3 ∷ []) refl refl refl (sub ! 3 refl (whole !))) refl refl refl (tx-data .typed (kept c .tx) (tx-of (kept c) good)) ∵ so-left h (kept c) (holds-tx c) ∵
               tells (withCore h (kept c)) (kept c) refl refl refl (made-of (kept c) good (s .«rx_data») (fields .1 .0)) (holds s high e more) refl))
               (λ _. reads-core h refl refl is ∵
               asks ! fm (known .tick-tx .at (c, (s .«tx_hb», (high, tt))) (is, (fields .1 .1 .0, (refl, tt)))) (also ! (held ! refl refl) (also ! (held ! refl refl) (also ! (held ! refl refl) (end !)))) refl (λ good.
@@ -386,7 +374,7 @@ module _ {M : Type 1} (𝓤 : URA M) (H : Heap 𝓤) (A : Atoms 𝓤) (at-mem : 
         begins fields =
             reads-core s refl refl (fields .0) ∵
             asks ! fm (known .heard .at (s .core, (high, tt)) (fields .0, (refl, tt))) (also ! (held ! refl refl) (also ! (held ! refl refl) (end !))) refl (λ is.
-            runs-stores s c (hears-runs s high) refl (runs-of c is) (part ! (5 ∷ []) refl refl refl (sub ! 5 refl (whole !))) ∵
+            stores-within ! b o 0 5 refl refl (part ! (5 ∷ []) refl refl refl (sub ! 5 refl (whole !))) refl refl refl (runs-data .typed (c .runs) (runs-of c is)) ∵ so-left s c (hears-runs s high) ∵
             copies ! refl (part ! (2 ∷ []) {v = bus-data .val (c .bus)} refl refl refl (sub ! 2 refl (whole !))) (bus-data .typed (c .bus) (bus-of c is)) ∵
             copies ! refl (part ! (1 ∷ []) {v = state-val (c .bus .«bus_state»)} refl refl refl (sub ! 1 refl (whole !)))
             (enum.lawful state.the-type state-laws.the-laws 𝓤 H A W tt .typed (c .bus .«bus_state») _ (owed bus.the-type bus-laws.the-laws (c .bus) _ (bus-of c is) .1 .0) .0) ∵
