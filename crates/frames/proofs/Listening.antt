@@ -11,7 +11,7 @@ use lib.ListN.{length, getD}
 use Rattle.laws.specs.Pick.{pick}
 use Rattle.halfbits.specs.Wave.{high, low, levelAt}
 use Rattle.halfbits.proofs.Levels.{bitOf, first-level}
-use Rattle.capture.specs.Samples.{bytesOf}
+use Rattle.event.specs.Event.{eventOf}
 use Rattle.machine.specs.declared.BusState.the-variants as bus
 use Rattle.fsm.specs.declared.DaliBitbangPhy.{DaliBitbangPhy}
 use Rattle.fsm.specs.Ticking.{tickOf}
@@ -31,12 +31,13 @@ module _ (level : ℕ → Bool) (m : ℕ) {s t : DaliBitbangPhy} (k : Same s t) 
   hears-on h = record { base = h .base; on = hearing-kept (h .base) level m s t k (h .on) }
 
   holds-on : markOf t ≡ markOf s → Captured level m s → Captured level m t
+  unfolding eventOf
   holds-on same h = record {
     idle = ap (λ b. b .«bus_state») (k .bus) ∙ h .idle;
     ready = same ∙ h .ready;
-    count = ap (λ l. l .«sample_count») (k .last) ∙ h .count;
-    bytes = subst (Stored level (m / 8)) (sym (ap (λ l. bytesOf (l .samples)) (k .last))) (h .bytes);
-    end = ap (λ l. getD (bytesOf (l .samples)) (m / 8) 0) (k .last) ∙ h .end;
+    count = ap (λ e. e .«sample_count») (k .last) ∙ h .count;
+    bytes = subst (Stored level (m / 8)) (sym (ap (λ e. e .samples) (k .last))) (h .bytes);
+    end = ap (λ e. getD (e .samples) (m / 8) 0) (k .last) ∙ h .end;
   }
 
 -- ---- from the second low sample to the sixteenth high one, and on

@@ -13,8 +13,7 @@ use Rattle.machine.specs.Idle.{entered}
 use Rattle.machine.specs.declared.RxState.the-variants.{Completed}
 use Rattle.machine.specs.declared.Rx.{Rx}
 use Rattle.machine.specs.declared.Core.{Core}
-use Rattle.fsm.specs.Station.{stationOf}
-use Rattle.fsm.specs.declared.LastRx.{LastRx}
+use Rattle.fsm.specs.Station.{withCore, withData, withLast}
 use Rattle.fsm.specs.declared.DaliBitbangPhy.{DaliBitbangPhy}
 
 -- ---- one sample
@@ -77,16 +76,8 @@ finished c r =
     Completed)
 
 -- The samples so far, their count and the silence before them are the event. Bytes past the count are what earlier captures left.
-abbrev pub lastOf : Core → Samples → LastRx
-lastOf c samples = record {
-  samples = samples;
-  «sample_count» = c .rx .«rx_pos»;
-  «pre_idle_ticks» = c .rx .«rx_pre_idle»;
-  filler = 0;
-}
-
 unfoldable pub notified : DaliBitbangPhy → Core → Samples → DaliBitbangPhy
-notified s c samples = stationOf c samples (s .«tx_hb») (lastOf c samples)
+notified s c samples = withLast (withData (withCore s c) samples) samples (c .rx .«rx_pos») (c .rx .«rx_pre_idle»)
 
 -- ---- a tick
 -- A station whose core (`c`) has heard the level, and whose capture has its sample. The sixteenth high running writes 0xFF at the position and ends
@@ -94,7 +85,7 @@ notified s c samples = stationOf c samples (s .«tx_hb») (lastOf c samples)
 unfoldable pub wentOn : DaliBitbangPhy → Core → Rx → Samples → DaliBitbangPhy
 wentOn s c r samples =
     pick (goesOn r)
-    (stationOf (withRx c r) samples (s .«tx_hb») (s .«last_rx»))
+    (withData (withCore s (withRx c r)) samples)
     (notified s (finished c r) (withByte samples (r .«rx_pos») 255))
 
 unfoldable pub rxTick : DaliBitbangPhy → Core → Bool → DaliBitbangPhy

@@ -7,7 +7,7 @@ use Rattle.halfbits.specs.declared.HalfBitBuffer.{HalfBitBuffer}
 use Rattle.machine.specs.Sending.{storeOf}
 use Rattle.machine.specs.Starting.{loaded}
 use Rattle.machine.specs.States.{isIdle, hears}
-use Rattle.fsm.specs.Station.{stationOf}
+use Rattle.fsm.specs.Station.{withCore, withTxHb}
 use Rattle.fsm.specs.declared.DaliBitbangPhy.{DaliBitbangPhy}
 use Rattle.fsm.specs.declared.StartAnswer.{StartAnswer}
 use Rattle.fsm.specs.declared.StartAnswer.the-variants as start
@@ -22,7 +22,7 @@ startedWith s answer = record { station = s; answer = answer }
 
 -- the station that sends the half-bits: its captures stay as they are
 unfoldable pub loadedWith : DaliBitbangPhy → HalfBitBuffer → Bool → DaliBitbangPhy
-loadedWith s hb answer = stationOf (loaded (s .core) answer) (s .«rx_data») (storeOf hb) (s .«last_rx»)
+loadedWith s hb answer = withTxHb (withCore s (loaded (s .core) answer)) (storeOf hb)
 
 -- refusal 8, with the station untouched, or the start
 unfoldable pub started : DaliBitbangPhy → HalfBitBuffer → Bool → Started

@@ -1,4 +1,5 @@
--- A new station, and the event that a station hands out. Assumes nothing.
+-- A new station, the event that a station hands out, and a station with one part changed. Assumes nothing.
+use Prim.Native.Nat.{ℕ}
 use mathlib.Core.Bool.{true, false}
 use lib.ListN.{replicate}
 use Rattle.capture.specs.declared.Samples.{Samples}
@@ -10,12 +11,11 @@ use Rattle.machine.specs.declared.RxState.the-variants.{Empty}
 use Rattle.machine.specs.declared.CollisionPolicy.the-variants.{Auto}
 use Rattle.machine.specs.declared.Core.{Core}
 use Rattle.machine.specs.declared.TxHb.{TxHb}
-use Rattle.fsm.specs.declared.LastRx.{LastRx}
 use Rattle.fsm.specs.declared.DaliBitbangPhy.{DaliBitbangPhy}
 
 -- the event of the last capture that was completed
 abbrev pub lastEvent : DaliBitbangPhy → RxCompletedEvent
-lastEvent s = eventOf (bytesOf (s .«last_rx» .samples)) (s .«last_rx» .«sample_count») (s .«last_rx» .«pre_idle_ticks»)
+lastEvent s = eventOf (bytesOf (s .«last_samples»)) (s .«last_sample_count») (s .«last_pre_idle_ticks»)
 
 unfoldable pub newCore : Core
 newCore = record {
@@ -31,21 +31,58 @@ newCore = record {
 abbrev pub noSamples : Samples
 noSamples = samplesOf (replicate 64 0)
 
-abbrev pub stationOf : Core → Samples → TxHb → LastRx → DaliBitbangPhy
-stationOf core samples hb last = record {
-  core = core;
-  «rx_data» = samples;
-  «tx_hb» = hb;
-  «last_rx» = last;
-}
-
--- a station with another core, and nothing else changed
-abbrev pub withCore : DaliBitbangPhy → Core → DaliBitbangPhy
-withCore s core = stationOf core (s .«rx_data») (s .«tx_hb») (s .«last_rx»)
-
 -- Idle, the line high, policy Auto, nothing captured and nothing to send.
 unfoldable pub newStation : DaliBitbangPhy
-newStation =
-    stationOf newCore noSamples
-    (record { «tx_hb_bits» = 0; «tx_hb_len» = 0 })
-    (record { samples = noSamples; «sample_count» = 0; «pre_idle_ticks» = 0; filler = 0 })
+newStation = record {
+  core = newCore;
+  «rx_data» = noSamples;
+  «tx_hb» = record { «tx_hb_bits» = 0; «tx_hb_len» = 0 };
+  «last_samples» = noSamples;
+  «last_sample_count» = 0;
+  «last_pre_idle_ticks» = 0;
+}
+
+-- ---- a station with one part changed, and nothing else
+-- another core
+abbrev pub withCore : DaliBitbangPhy → Core → DaliBitbangPhy
+withCore s core = record {
+  core = core;
+  «rx_data» = s .«rx_data»;
+  «tx_hb» = s .«tx_hb»;
+  «last_samples» = s .«last_samples»;
+  «last_sample_count» = s .«last_sample_count»;
+  «last_pre_idle_ticks» = s .«last_pre_idle_ticks»;
+}
+
+-- another capture in the making
+abbrev pub withData : DaliBitbangPhy → Samples → DaliBitbangPhy
+withData s samples = record {
+  core = s .core;
+  «rx_data» = samples;
+  «tx_hb» = s .«tx_hb»;
+  «last_samples» = s .«last_samples»;
+  «last_sample_count» = s .«last_sample_count»;
+  «last_pre_idle_ticks» = s .«last_pre_idle_ticks»;
+}
+
+-- other half-bits to send
+abbrev pub withTxHb : DaliBitbangPhy → TxHb → DaliBitbangPhy
+withTxHb s hb = record {
+  core = s .core;
+  «rx_data» = s .«rx_data»;
+  «tx_hb» = hb;
+  «last_samples» = s .«last_samples»;
+  «last_sample_count» = s .«last_sample_count»;
+  «last_pre_idle_ticks» = s .«last_pre_idle_ticks»;
+}
+
+-- another last event: its samples, their count and the silence before them
+abbrev pub withLast : DaliBitbangPhy → Samples → ℕ → ℕ → DaliBitbangPhy
+withLast s samples count silence = record {
+  core = s .core;
+  «rx_data» = s .«rx_data»;
+  «tx_hb» = s .«tx_hb»;
+  «last_samples» = samples;
+  «last_sample_count» = count;
+  «last_pre_idle_ticks» = silence;
+}

@@ -9,7 +9,7 @@ ghost use Rattle.machine.specs.States.{isIdle, hears};
 ghost use Rattle.machine.specs.Fields.{withRx, withTold, withRxState};
 ghost use Rattle.fsm.specs.Constants.{publicConstants};
 ghost use Rattle.fsm.specs.Station.{lastEvent, withCore, newCore, newStation};
-ghost use Rattle.fsm.specs.Rx.{shifted, highRun, filledUp, shiftedIn, sampled, lastOf, finished, notified, wentOn, rxTick};
+ghost use Rattle.fsm.specs.Rx.{shifted, highRun, filledUp, shiftedIn, sampled, finished, notified, wentOn, rxTick};
 ghost use Rattle.fsm.specs.Ticking.{actOf, ticked};
 ghost use Rattle.fsm.specs.Refusals.{numberOf, startNumber};
 ghost use Rattle.fsm.specs.Starting.{lengthFits, started, startTx, startAnswer};
@@ -109,21 +109,15 @@ pub fn restart_gate_for(release_to_edge_ticks: u8) -> u8
     0
 }
 
-// What a station keeps of its last event: what the machine sets. The filler is always 0: a gap of one byte in its place would be copied byte by
-// byte at each tick.
-struct LastRx {
-    samples: Samples,
-    sample_count: u16,
-    pre_idle_ticks: u8,
-    filler: u8,
-}
-
-// Three fields are public for `in_place`, which changes a station that it is lent. No promise rests on who wrote them.
+// Three fields are public for `in_place`, which changes a station that it is lent. No promise rests on who wrote them. Of its last event a station
+// keeps what the machine sets.
 pub struct DaliBitbangPhy {
     pub core: Core,
     pub rx_data: Samples,
     pub tx_hb: TxHb,
-    last_rx: LastRx,
+    last_samples: Samples,
+    last_sample_count: u16,
+    last_pre_idle_ticks: u8,
 }
 
 // Calls that change a station give it back beside their answer.
@@ -255,18 +249,6 @@ fn with_rx(mut core: Core, rx: Rx) -> Core
     core
 }
 
-// What is told of a capture that has ended.
-fn captured(core: Core, samples: Samples) -> LastRx
-    ensures { λ r. ⌜ r ≡ lastOf core samples ⌝ }
-{
-    LastRx {
-        samples,
-        sample_count: core.rx.rx_pos,
-        pre_idle_ticks: core.rx.rx_pre_idle,
-        filler: 0,
-    }
-}
-
 // What the calls tell of, with another mark of the capture.
 fn in_rx_state(mut core: Core, rx_state: RxState) -> Core
     ensures { λ r. ⌜ r ≡ withRxState core «rx_state» ⌝ }
@@ -370,17 +352,13 @@ impl DaliBitbangPhy {
             tx_hb_len: 0,
         };
         let samples = Samples::new();
-        let last_rx = LastRx {
-            samples,
-            sample_count: 0,
-            pre_idle_ticks: 0,
-            filler: 0,
-        };
         DaliBitbangPhy {
             core,
             rx_data: samples,
             tx_hb,
-            last_rx,
+            last_samples: samples,
+            last_sample_count: 0,
+            last_pre_idle_ticks: 0,
         }
     }
 
@@ -424,10 +402,11 @@ impl DaliBitbangPhy {
     pub fn finish_rx_and_notify(mut self, core: Core, rx_data: Samples) -> DaliBitbangPhy
         ensures { λ r. ⌜ r ≡ notified self core «rx_data» ⌝ }
     {
-        let last_rx = captured(core, rx_data);
         self.core = core;
         self.rx_data = rx_data;
-        self.last_rx = last_rx;
+        self.last_samples = rx_data;
+        self.last_sample_count = core.rx.rx_pos;
+        self.last_pre_idle_ticks = core.rx.rx_pre_idle;
         self
     }
 
@@ -652,11 +631,11 @@ impl DaliBitbangPhy {
     pub fn last_rx_event(self) -> RxCompletedEvent
         ensures { λ r. ⌜ r ≡ lastEvent self ⌝ }
     {
-        let kept = self.last_rx.samples;
+        let kept = self.last_samples;
         RxCompletedEvent::of_capture(
             kept.bytes(),
-            self.last_rx.sample_count,
-            self.last_rx.pre_idle_ticks,
+            self.last_sample_count,
+            self.last_pre_idle_ticks,
         )
     }
 

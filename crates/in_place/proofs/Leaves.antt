@@ -17,7 +17,7 @@ use Rattle.machine.specs.declared.Core.{Core}
 use Rattle.machine.specs.declared.Rx.{Rx}
 use Rattle.fsm.specs.declared.DaliBitbangPhy.{DaliBitbangPhy}
 use Rattle.fsm.specs.declared.Ticked.{Ticked}
-use Rattle.fsm.specs.Station.{withCore, stationOf}
+use Rattle.fsm.specs.Station.{withCore, withData}
 use Rattle.fsm.specs.Rx.{shifted, eighth, sampled, filled, goesOn, finished, notified, wentOn, rxTick}
 use Rattle.fsm.specs.Ticking.{actOf, ticked}
 use Rattle.fsm.proofs.Ticks.{acted}
@@ -25,10 +25,6 @@ use Rattle.fsm.proofs.Ticks.{acted}
 -- a station, and the level that it drives
 abbrev pub driving : DaliBitbangPhy → Ticked
 driving t = record { station = t; «driven_high» = t .core .bus .«driven_high» }
-
--- a station with another capture
-abbrev pub withData : DaliBitbangPhy → Samples → DaliBitbangPhy
-withData s bytes = stationOf (s .core) bytes (s .«tx_hb») (s .«last_rx»)
 
 -- ---- the one group that changes
 pub counts-bus : (c : Core) → silent c ≡ withBus c (silent c .bus)

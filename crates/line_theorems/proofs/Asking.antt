@@ -15,7 +15,7 @@ use Rattle.machine.specs.declared.Bus.{Bus}
 use Rattle.machine.specs.declared.Runs.{Runs}
 use Rattle.fsm.specs.declared.DaliBitbangPhy.{DaliBitbangPhy}
 use Rattle.fsm.specs.declared.Polled.{Polled}
-use Rattle.fsm.specs.Station.{newStation}
+use Rattle.fsm.specs.Station.{lastEvent, newStation}
 use Rattle.fsm.specs.Ticking.{tickOf}
 use Rattle.machine.specs.States.{hears, isTx}
 use Rattle.fsm.specs.Polling.{polled}
@@ -45,7 +45,7 @@ distinct e = omega (arith, e)
 pub record Kept (k : Call) (s s′ : DaliBitbangPhy) : Type 0 where
   pub bus : s′ .core .bus ≡ s .core .bus
   pub runs : s′ .core .runs ≡ s .core .runs
-  pub last : s′ .«last_rx» ≡ s .«last_rx»
+  pub last : lastEvent s′ ≡ lastEvent s
   pub collisions : (k ≡ station.poll → ⊥) → s′ .core .told .«tx_collision» ≡ s .core .told .«tx_collision»
   pub yields : (k ≡ station.poll → ⊥) → s′ .core .told .«tx_yielded» ≡ s .core .told .«tx_yielded»
   pub marked : (k ≡ station.take-idle → ⊥) → s′ .core .told .«tx_idle_after_break» ≡ s .core .told .«tx_idle_after_break»

@@ -15,6 +15,7 @@ use Rattle.machine.specs.declared.Bus.{Bus}
 use Rattle.machine.specs.declared.Told.{Told}
 use Rattle.machine.specs.Runs.{heardOf}
 use Rattle.machine.specs.Idle.{idleTick, silent, fell}
+use Rattle.fsm.specs.Station.{lastEvent}
 use Rattle.fsm.specs.declared.DaliBitbangPhy.{DaliBitbangPhy}
 use Rattle.fsm.specs.declared.Polled.{Polled}
 use Rattle.fsm.specs.declared.TxPollResult.the-variants.{Ok, Collision}
@@ -242,7 +243,7 @@ pub record Event (frame : Frame) (s : DaliBitbangPhy) : Type 0 where
 
 module _ {frame : Frame} (s : DaliBitbangPhy) where
   -- its mark and its bytes are all that counts
-  same-event : (s′ : DaliBitbangPhy) → s′ .core .told .«rx_state» ≡ s .core .told .«rx_state» → s′ .«last_rx» ≡ s .«last_rx» → Event frame s → Event frame s′
+  same-event : (s′ : DaliBitbangPhy) → s′ .core .told .«rx_state» ≡ s .core .told .«rx_state» → lastEvent s′ ≡ lastEvent s → Event frame s → Event frame s′
   unfolding tookRx
   same-event s′ mark last h =
       let same : taken s′ ≡ taken s = rw (mark, last) refl in

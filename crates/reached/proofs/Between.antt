@@ -6,6 +6,7 @@ use Rattle.laws.proofs.Picked.{on-false, cases}
 use Rattle.halfbits.specs.declared.HalfBitBuffer.{HalfBitBuffer}
 use Rattle.machine.specs.declared.BusState.{BusState}
 use Rattle.machine.specs.declared.BusState.the-variants as bus
+use Rattle.fsm.specs.Station.{lastEvent}
 use Rattle.fsm.specs.declared.DaliBitbangPhy.{DaliBitbangPhy}
 use Rattle.fsm.specs.declared.Started.{Started}
 use Rattle.fsm.specs.declared.StartAnswer.the-variants as start
@@ -24,7 +25,7 @@ pub record Same (s t : DaliBitbangPhy) : Type 0 where
   pub tx : t .core .tx ≡ s .core .tx
   pub bytes : t .«rx_data» ≡ s .«rx_data»
   pub halfbits : t .«tx_hb» ≡ s .«tx_hb»
-  pub last : t .«last_rx» ≡ s .«last_rx»
+  pub last : lastEvent t ≡ lastEvent s
 
 pub itself : (s : DaliBitbangPhy) → Same s s
 itself s = record { runs = refl; bus = refl; rx = refl; tx = refl; bytes = refl; halfbits = refl; last = refl }

@@ -71,7 +71,7 @@ abbrev pub captured : DaliBitbangPhy → List ℕ
 captured s = bytesOf (s .«rx_data»)
 
 abbrev pub handed : DaliBitbangPhy → List ℕ
-handed s = bytesOf (s .«last_rx» .samples)
+handed s = bytesOf (s .«last_samples»)
 
 -- eight levels a byte, the first of them on top
 abbrev pub byteOf : (ℕ → Bool) → ℕ → ℕ
@@ -111,11 +111,11 @@ pub record Captured (s : DaliBitbangPhy) (level : ℕ → Bool) (heard : ℕ) (t
   pub idle : NoLow t
   pub ready : t .core .told .«rx_state» ≡ Completed
   pub whole : length (handed t) ≡ 64
-  pub count : t .«last_rx» .«sample_count» ≡ min (heard / 8) 63 + 1
+  pub count : t .«last_sample_count» ≡ min (heard / 8) 63 + 1
   pub first : (i : ℕ) → i < heard / 8 → i < 63 → getD (handed t) i 0 ≡ byteOf level i
   pub end : getD (handed t) (min (heard / 8) 63) 0 ≡ 255
   pub rest : (i : ℕ) → heard / 8 < i → getD (handed t) i 0 ≡ getD (captured s) i 0
-  pub silence : t .«last_rx» .«pre_idle_ticks» ≡ min (idleCount s) 255
+  pub silence : t .«last_pre_idle_ticks» ≡ min (idleCount s) 255
   pub stays : captured t ≡ handed t
 
 abbrev pub CaptureEnds : Type 0

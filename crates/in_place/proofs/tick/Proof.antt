@@ -87,13 +87,13 @@ use Rattle.fsm.proofs.with_end.Symbol as with-end-code
 use Rattle.fsm.proofs.with_end.Met as with-end-met
 use Rattle.fsm.proofs.DaliBitbangPhy.finish_rx_and_notify.Symbol as finish-code
 use Rattle.fsm.proofs.DaliBitbangPhy.finish_rx_and_notify.Met as finish-met
-use Rattle.fsm.specs.Station.{withCore}
+use Rattle.fsm.specs.Station.{withCore, withData}
 use Rattle.fsm.specs.Rx.{shifted, eighth, sampled, goesOn, finished, notified}
 use Rattle.fsm.specs.Ticking.{ticked}
 use Rattle.fsm.specs.declared.DaliBitbangPhy.{DaliBitbangPhy}
 use Rattle.fsm.specs.declared.Ticked.{Ticked}
 use Rattle.in_place.proofs.Lent.{two, meets as lent-meets}
-use Rattle.in_place.proofs.Leaves.{driving, withData, hears, hearing, hears-runs, counts-bus, holds-tx, counts, falls, holds, sends, breaks, rxOf, dataOf, withEighth, fills, keeps, withEnd, captured, captured-core, goes-on, ends as captures}
+use Rattle.in_place.proofs.Leaves.{driving, hears, hearing, hears-runs, counts-bus, holds-tx, counts, falls, holds, sends, breaks, rxOf, dataOf, withEighth, fills, keeps, withEnd, captured, captured-core, goes-on, ends as captures}
 use Rattle.fsm.proofs.DaliBitbangPhy as phy
 use Rattle.fsm.proofs.DaliBitbangPhy.Laws as phy-laws
 use Rattle.in_place.proofs.tick as own
@@ -156,7 +156,7 @@ module _ {M : Type 1} (𝓤 : URA M) (H : Heap 𝓤) (A : Atoms 𝓤) (at-mem : 
     with-end : Computes C with-end-code.name (bytes-data ∷ rx-data ∷ []) bytes-data (λ a. withByte (a .0) (a .1 .0 .«rx_pos») 255)
     finish : Computes C finish-code.name (Station ∷ core-data ∷ bytes-data ∷ []) Station (λ a. notified (a .0) (a .1 .0) (a .1 .1 .0))
 
-  -- what is known of a station's fields: its core, its capture, its half-bits and, of a type that is fsm's own, its event
+  -- what is known of a station's fields: its core, its capture, its half-bits and what it keeps of its last event
   abbrev Fields : DaliBitbangPhy → Type 0
   Fields t = AreAll (declared.fields phy.the-type) (phy.the-type .to t) (valss (declared.fields phy.the-type) (spells (phy.the-type .parts) phy-laws.the-laws) (phy.the-type .to t))
 
