@@ -1,5 +1,4 @@
 -- From wave to frame (specs/WaveToFrame, Amid). Assumes nothing.
-use Rattle.reached.specs.OverTicks.{handed}
 use Prim.Native.Nat.{ℕ, suc, _+_, _-_, _*_, _/_, _<_, _≤_}
 use native.Mathlib.Omega.{arith}
 use mathlib.Core.Bool.{Bool, true}
@@ -23,6 +22,7 @@ use Rattle.event.specs.Event.{eventOf}
 use Rattle.halfbits.specs.Wave.{high, levelAt}
 use Rattle.machine.specs.States.{isCompleted}
 use Rattle.fsm.specs.declared.DaliBitbangPhy.{DaliBitbangPhy}
+use Rattle.fsm.specs.Station.{lastBytes}
 use Rattle.fsm.specs.Calls.{tookRx}
 use Rattle.frames.specs.ReadAs.{FitsCapture, taken, IsReady, windowIn, cleanWeights, frameWeights, ReadAtPhase0, FoundInOneStep, HasBits}
 use Rattle.frames.specs.WaveToFrame.{WaveToBits}
@@ -62,7 +62,7 @@ module _ (frame : List Bool) (fits : FitsCapture frame) (s : DaliBitbangPhy) (ca
   unfolding tookRx isCompleted
   is-ready = rw (capture .ready)
 
-  window-is : windowIn (taken s) ≡ windowOf (handed s) (caught .end / 8 + 1)
+  window-is : windowIn (taken s) ≡ windowOf (lastBytes s) (caught .end / 8 + 1)
   unfolding tookRx eventOf isCompleted pick
   window-is = rw (capture .ready, capture .count)
 
@@ -73,7 +73,7 @@ module _ (frame : List Bool) (fits : FitsCapture frame) (s : DaliBitbangPhy) (ca
       ap (late (caught .front) (levelAt frame)) e ∙ late-at (levelAt frame) (caught .front) (suc (lastLow frame) + j) ∙ after-last frame j
 
   abbrev window : SampleWindow
-  window = windowOf (handed s) (caught .end / 8 + 1)
+  window = windowOf (lastBytes s) (caught .end / 8 + 1)
 
   small : caught .end / 8 ≤ 62
   small = let b = lowIn-bounds (bitOf frame (length frame)) in omega (arith, caught .ends, caught .few)
@@ -81,7 +81,7 @@ module _ (frame : List Bool) (fits : FitsCapture frame) (s : DaliBitbangPhy) (ca
   shown : (p : ℕ) → p < 8 * window .len → tickAt window p ≡ digit (late (caught .front) (levelAt frame)) p
   unfolding windowOf
   shown p h =
-      shows (late (caught .front) (levelAt frame)) (caught .end / 8) (omega (arith, small)) (handed s) (capture .bytes) (capture .end) idle-behind p
+      shows (late (caught .front) (levelAt frame)) (caught .end / 8) (omega (arith, small)) (lastBytes s) (capture .bytes) (capture .end) idle-behind p
       (omega (arith, small))
 
   padded : sampleBits window + 8 ≤ 8 * window .len

@@ -1,6 +1,7 @@
 -- A new station, the event that a station hands out, and a station with one part changed. Assumes nothing.
 use Prim.Native.Nat.{ℕ}
 use mathlib.Core.Bool.{true, false}
+use mathlib.Core.List.{List}
 use lib.ListN.{replicate}
 use Rattle.capture.specs.declared.Samples.{Samples}
 use Rattle.capture.specs.Samples.{bytesOf, samplesOf}
@@ -10,12 +11,22 @@ use Rattle.machine.specs.declared.BusState.the-variants.{Idle}
 use Rattle.machine.specs.declared.RxState.the-variants.{Empty}
 use Rattle.machine.specs.declared.CollisionPolicy.the-variants.{Auto}
 use Rattle.machine.specs.declared.Core.{Core}
+use Rattle.machine.specs.declared.Rx.{Rx}
 use Rattle.machine.specs.declared.TxHb.{TxHb}
 use Rattle.fsm.specs.declared.DaliBitbangPhy.{DaliBitbangPhy}
 
--- the event of the last capture that was completed
+-- of the last capture that was completed: its bytes, their count, the silence before it, and its event
+abbrev pub lastBytes : DaliBitbangPhy → List ℕ
+lastBytes s = bytesOf (s .«event_data»)
+
+abbrev pub lastCount : DaliBitbangPhy → ℕ
+lastCount s = s .«event_rx» .«rx_pos»
+
+abbrev pub lastSilence : DaliBitbangPhy → ℕ
+lastSilence s = s .«event_rx» .«rx_pre_idle»
+
 abbrev pub lastEvent : DaliBitbangPhy → RxCompletedEvent
-lastEvent s = eventOf (bytesOf (s .«last_samples»)) (s .«last_sample_count») (s .«last_pre_idle_ticks»)
+lastEvent s = eventOf (lastBytes s) (lastCount s) (lastSilence s)
 
 unfoldable pub newCore : Core
 newCore = record {
@@ -35,11 +46,10 @@ noSamples = samplesOf (replicate 64 0)
 unfoldable pub newStation : DaliBitbangPhy
 newStation = record {
   core = newCore;
-  «rx_data» = noSamples;
   «tx_hb» = record { «tx_hb_bits» = 0; «tx_hb_len» = 0 };
-  «last_samples» = noSamples;
-  «last_sample_count» = 0;
-  «last_pre_idle_ticks» = 0;
+  «rx_data» = noSamples;
+  «event_data» = noSamples;
+  «event_rx» = newCore .rx;
 }
 
 -- ---- a station with one part changed, and nothing else
@@ -47,42 +57,38 @@ newStation = record {
 abbrev pub withCore : DaliBitbangPhy → Core → DaliBitbangPhy
 withCore s core = record {
   core = core;
+  «tx_hb» = s .«tx_hb»;
   «rx_data» = s .«rx_data»;
-  «tx_hb» = s .«tx_hb»;
-  «last_samples» = s .«last_samples»;
-  «last_sample_count» = s .«last_sample_count»;
-  «last_pre_idle_ticks» = s .«last_pre_idle_ticks»;
-}
-
--- another capture in the making
-abbrev pub withData : DaliBitbangPhy → Samples → DaliBitbangPhy
-withData s samples = record {
-  core = s .core;
-  «rx_data» = samples;
-  «tx_hb» = s .«tx_hb»;
-  «last_samples» = s .«last_samples»;
-  «last_sample_count» = s .«last_sample_count»;
-  «last_pre_idle_ticks» = s .«last_pre_idle_ticks»;
+  «event_data» = s .«event_data»;
+  «event_rx» = s .«event_rx»;
 }
 
 -- other half-bits to send
 abbrev pub withTxHb : DaliBitbangPhy → TxHb → DaliBitbangPhy
 withTxHb s hb = record {
   core = s .core;
-  «rx_data» = s .«rx_data»;
   «tx_hb» = hb;
-  «last_samples» = s .«last_samples»;
-  «last_sample_count» = s .«last_sample_count»;
-  «last_pre_idle_ticks» = s .«last_pre_idle_ticks»;
+  «rx_data» = s .«rx_data»;
+  «event_data» = s .«event_data»;
+  «event_rx» = s .«event_rx»;
 }
 
--- another last event: its samples, their count and the silence before them
-abbrev pub withLast : DaliBitbangPhy → Samples → ℕ → ℕ → DaliBitbangPhy
-withLast s samples count silence = record {
+-- another capture in the making
+abbrev pub withData : DaliBitbangPhy → Samples → DaliBitbangPhy
+withData s samples = record {
   core = s .core;
-  «rx_data» = s .«rx_data»;
   «tx_hb» = s .«tx_hb»;
-  «last_samples» = samples;
-  «last_sample_count» = count;
-  «last_pre_idle_ticks» = silence;
+  «rx_data» = samples;
+  «event_data» = s .«event_data»;
+  «event_rx» = s .«event_rx»;
+}
+
+-- another last event: its capture, and where that stood when it ended
+abbrev pub withEvent : DaliBitbangPhy → Samples → Rx → DaliBitbangPhy
+withEvent s samples rx = record {
+  core = s .core;
+  «tx_hb» = s .«tx_hb»;
+  «rx_data» = s .«rx_data»;
+  «event_data» = samples;
+  «event_rx» = rx;
 }

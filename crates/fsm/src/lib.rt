@@ -109,15 +109,14 @@ pub fn restart_gate_for(release_to_edge_ticks: u8) -> u8
     0
 }
 
-// Three fields are public for `in_place`, which changes a station that it is lent. No promise rests on who wrote them. Of its last event a station
-// keeps what the machine sets.
+// Three fields are public for `in_place`, which changes a station that it is lent. No promise rests on who wrote them. The other two are what the last
+// event is made of: a capture, and where it stood when it ended.
 pub struct DaliBitbangPhy {
     pub core: Core,
-    pub rx_data: Samples,
     pub tx_hb: TxHb,
-    last_samples: Samples,
-    last_sample_count: u16,
-    last_pre_idle_ticks: u8,
+    pub rx_data: Samples,
+    event_data: Samples,
+    event_rx: Rx,
 }
 
 // Calls that change a station give it back beside their answer.
@@ -347,6 +346,7 @@ impl DaliBitbangPhy {
         ensures { λ r. ⌜ r ≡ newStation ⌝ }
     {
         let core = new_core();
+        let rx = core.rx;
         let tx_hb = TxHb {
             tx_hb_bits: 0,
             tx_hb_len: 0,
@@ -354,11 +354,10 @@ impl DaliBitbangPhy {
         let samples = Samples::new();
         DaliBitbangPhy {
             core,
-            rx_data: samples,
             tx_hb,
-            last_samples: samples,
-            last_sample_count: 0,
-            last_pre_idle_ticks: 0,
+            rx_data: samples,
+            event_data: samples,
+            event_rx: rx,
         }
     }
 
@@ -402,11 +401,11 @@ impl DaliBitbangPhy {
     pub fn finish_rx_and_notify(mut self, core: Core, rx_data: Samples) -> DaliBitbangPhy
         ensures { λ r. ⌜ r ≡ notified self core «rx_data» ⌝ }
     {
+        let event_rx = core.rx;
         self.core = core;
         self.rx_data = rx_data;
-        self.last_samples = rx_data;
-        self.last_sample_count = core.rx.rx_pos;
-        self.last_pre_idle_ticks = core.rx.rx_pre_idle;
+        self.event_data = rx_data;
+        self.event_rx = event_rx;
         self
     }
 
@@ -631,11 +630,11 @@ impl DaliBitbangPhy {
     pub fn last_rx_event(self) -> RxCompletedEvent
         ensures { λ r. ⌜ r ≡ lastEvent self ⌝ }
     {
-        let kept = self.last_samples;
+        let samples = self.event_data;
         RxCompletedEvent::of_capture(
-            kept.bytes(),
-            self.last_sample_count,
-            self.last_pre_idle_ticks,
+            samples.bytes(),
+            self.event_rx.rx_pos,
+            self.event_rx.rx_pre_idle,
         )
     }
 

@@ -26,11 +26,11 @@ use Rattle.machine.specs.BecomingIdle.{idled}
 use Rattle.machine.specs.Idle.{entered, idleTick, silent, fell}
 use Rattle.fsm.specs.Rx.{shifted, highRun, sampled, filled, goesOn, finished, notified, wentOn, rxTick, noneSampled}
 use Rattle.fsm.specs.declared.DaliBitbangPhy.{DaliBitbangPhy}
-use Rattle.fsm.specs.Station.{withCore, withData}
+use Rattle.fsm.specs.Station.{lastBytes, lastCount, withCore, withData}
 use Rattle.fsm.specs.Ticking.{actOf, tickOf}
 use Rattle.reached.specs.Ticks.{IsIdle, IsCapturing, highsRunning}
 use Rattle.reached.specs.OverTicks as over
-use Rattle.reached.specs.OverTicks.{idleCount, captured, handed, byteOf, Store, NoLow}
+use Rattle.reached.specs.OverTicks.{idleCount, captured, byteOf, Store, NoLow}
 use Rattle.reached.proofs.Between.{Same}
 use Rattle.reached.proofs.ByState.{tick-rx}
 
@@ -246,9 +246,9 @@ module _ (level : ℕ → Bool) where
   pub record Captured (m : ℕ) (s : DaliBitbangPhy) : Type 0 where
     pub idle : IsIdle s
     pub ready : s .core .told .«rx_state» ≡ Completed
-    pub count : s .«last_sample_count» ≡ m / 8 + 1
-    pub bytes : Stored (m / 8) (handed s)
-    pub end : getD (handed s) (m / 8) 0 ≡ 255
+    pub count : lastCount s ≡ m / 8 + 1
+    pub bytes : Stored (m / 8) (lastBytes s)
+    pub end : getD (lastBytes s) (m / 8) 0 ≡ 255
 
   module _ (m : ℕ) (s : DaliBitbangPhy) (h : Hearing m s) (room : m < 504) (few : highsRunning m level ≤ 15) where
     pub hearing-next : highsRunning (suc m) level ≤ 15 → Hearing (suc m) (tickOf s (level m))

@@ -27,7 +27,7 @@ use Rattle.fsm.specs.declared.DaliBitbangPhy.{DaliBitbangPhy}
 use Rattle.fsm.specs.declared.Started.{Started}
 use Rattle.fsm.specs.declared.StartAnswer.the-variants.{Busy}
 use Rattle.fsm.specs.declared.Polled.{Polled}
-use Rattle.fsm.specs.Station.{newCore, newStation, withCore}
+use Rattle.fsm.specs.Station.{lastCount, newCore, newStation, withCore}
 use Rattle.fsm.specs.Ticking.{actOf, tickOf}
 use Rattle.machine.specs.States.{isIdle, hears, isTx, isCompleted}
 use Rattle.fsm.specs.Starting.{lengthFits, startedWith, loadedWith, started, startTx, startAnswer}
@@ -40,7 +40,7 @@ use Rattle.reached.proofs.Cores.{Good, In, rxCore, coreAfter, act-good,
 pub record Whole (s : DaliBitbangPhy) : Type 0 where
   pub core : Good (s .core)
   pub loads : s .«tx_hb» .«tx_hb_len» ≤ 54
-  pub counts : s .core .told .«rx_state» ≡ Completed → (3 ≤ s .«last_sample_count») × (s .«last_sample_count» ≤ 64)
+  pub counts : s .core .told .«rx_state» ≡ Completed → (3 ≤ lastCount s) × (lastCount s ≤ 64)
 
 -- only the core changes, and no capture becomes ready
 with-core : (s : DaliBitbangPhy) (c : Core) → Whole s → Good c → (c .told .«rx_state» ≡ Completed → s .core .told .«rx_state» ≡ Completed) → Whole (withCore s c)

@@ -6,6 +6,7 @@ use Rattle.machine.specs.declared.BusState.the-variants as bus
 use Rattle.machine.specs.declared.RxState.{RxState}
 use Rattle.machine.specs.declared.RxState.the-variants.{Empty, Receiving, Completed}
 use Rattle.fsm.specs.declared.DaliBitbangPhy.{DaliBitbangPhy}
+use Rattle.fsm.specs.Station.{lastCount}
 use Rattle.machine.specs.States.{isRx, hears}
 use Rattle.reached.specs.Calls.{Reached}
 
@@ -40,8 +41,8 @@ pub record Holds (s : DaliBitbangPhy) : Type 0 where
   -- no length over 54 is loaded
   pub loads : s .«tx_hb» .«tx_hb_len» ≤ 54
   -- a capture that can be taken counts 3 to 64 bytes
-  pub count-from : s .core .told .«rx_state» ≡ Completed → 3 ≤ s .«last_sample_count»
-  pub count-to : s .core .told .«rx_state» ≡ Completed → s .«last_sample_count» ≤ 64
+  pub count-from : s .core .told .«rx_state» ≡ Completed → 3 ≤ lastCount s
+  pub count-to : s .core .told .«rx_state» ≡ Completed → lastCount s ≤ 64
 
 -- for any calls from a new station
 abbrev pub Invariants : Type 0

@@ -21,6 +21,7 @@ use Rattle.machine.specs.Sending.{halfBitIn, storeOf, releasesAt}
 use Rattle.fsm.specs.declared.DaliBitbangPhy.{DaliBitbangPhy}
 use Rattle.fsm.specs.declared.StartAnswer.the-variants as start
 use Rattle.fsm.specs.declared.TxPollResult.the-variants.{Ok, Collision, Yielded}
+use Rattle.fsm.specs.Station.{lastBytes, lastCount, lastSilence}
 use Rattle.fsm.specs.Ticking.{tickOf}
 use Rattle.fsm.specs.Starting.{startTx, startAnswer}
 use Rattle.fsm.specs.Refusals.{numberOf}
@@ -66,12 +67,9 @@ abbrev pub IdleTicks : Type 0
 IdleTicks = (s : DaliBitbangPhy) → Reached s → IsIdle s → InIdle s
 
 -- ---- Rx
--- the bytes of the capture that is being made, and of the last event
+-- the bytes of the capture that is being made
 abbrev pub captured : DaliBitbangPhy → List ℕ
 captured s = bytesOf (s .«rx_data»)
-
-abbrev pub handed : DaliBitbangPhy → List ℕ
-handed s = bytesOf (s .«last_samples»)
 
 -- eight levels a byte, the first of them on top
 abbrev pub byteOf : (ℕ → Bool) → ℕ → ℕ
@@ -110,13 +108,13 @@ Captures =
 pub record Captured (s : DaliBitbangPhy) (level : ℕ → Bool) (heard : ℕ) (t : DaliBitbangPhy) : Type 0 where
   pub idle : NoLow t
   pub ready : t .core .told .«rx_state» ≡ Completed
-  pub whole : length (handed t) ≡ 64
-  pub count : t .«last_sample_count» ≡ min (heard / 8) 63 + 1
-  pub first : (i : ℕ) → i < heard / 8 → i < 63 → getD (handed t) i 0 ≡ byteOf level i
-  pub end : getD (handed t) (min (heard / 8) 63) 0 ≡ 255
-  pub rest : (i : ℕ) → heard / 8 < i → getD (handed t) i 0 ≡ getD (captured s) i 0
-  pub silence : t .«last_pre_idle_ticks» ≡ min (idleCount s) 255
-  pub stays : captured t ≡ handed t
+  pub whole : length (lastBytes t) ≡ 64
+  pub count : lastCount t ≡ min (heard / 8) 63 + 1
+  pub first : (i : ℕ) → i < heard / 8 → i < 63 → getD (lastBytes t) i 0 ≡ byteOf level i
+  pub end : getD (lastBytes t) (min (heard / 8) 63) 0 ≡ 255
+  pub rest : (i : ℕ) → heard / 8 < i → getD (lastBytes t) i 0 ≡ getD (captured s) i 0
+  pub silence : lastSilence t ≡ min (idleCount s) 255
+  pub stays : captured t ≡ lastBytes t
 
 abbrev pub CaptureEnds : Type 0
 CaptureEnds =

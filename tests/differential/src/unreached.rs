@@ -256,9 +256,9 @@ mod port {
                         length: state.tx_hb_len,
                     });
                     s.rx_data = samples(state.rx_data);
-                    s.last_samples = samples(state.samples);
-                    s.last_sample_count = state.sample_count;
-                    s.last_pre_idle_ticks = state.pre_idle_ticks;
+                    s.event_data = samples(state.samples);
+                    s.event_rx.rx_pos = state.sample_count;
+                    s.event_rx.rx_pre_idle = state.pre_idle_ticks;
                     s
                 }
 
@@ -273,9 +273,9 @@ mod port {
                         tx_hb_data: std::array::from_fn(|at| s.tx_hb.tx_hb_bits.to_be_bytes()[at]),
                         tx_hb_len: s.tx_hb.tx_hb_len as u8,
                         rx_data: s.rx_data.bytes(),
-                        samples: s.last_samples.bytes(),
-                        sample_count: s.last_sample_count,
-                        pre_idle_ticks: s.last_pre_idle_ticks,
+                        samples: s.event_data.bytes(),
+                        sample_count: s.event_rx.rx_pos,
+                        pre_idle_ticks: s.event_rx.rx_pre_idle,
                     }
                 }
             };

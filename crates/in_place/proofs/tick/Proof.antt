@@ -156,7 +156,7 @@ module _ {M : Type 1} (𝓤 : URA M) (H : Heap 𝓤) (A : Atoms 𝓤) (at-mem : 
     with-end : Computes C with-end-code.name (bytes-data ∷ rx-data ∷ []) bytes-data (λ a. withByte (a .0) (a .1 .0 .«rx_pos») 255)
     finish : Computes C finish-code.name (Station ∷ core-data ∷ bytes-data ∷ []) Station (λ a. notified (a .0) (a .1 .0) (a .1 .1 .0))
 
-  -- what is known of a station's fields: its core, its capture, its half-bits and what it keeps of its last event
+  -- what is known of a station's fields: its core, its half-bits, its capture and what it keeps of its last event
   abbrev Fields : DaliBitbangPhy → Type 0
   Fields t = AreAll (declared.fields phy.the-type) (phy.the-type .to t) (valss (declared.fields phy.the-type) (spells (phy.the-type .parts) phy-laws.the-laws) (phy.the-type .to t))
 
@@ -221,11 +221,11 @@ module _ {M : Type 1} (𝓤 : URA M) (H : Heap 𝓤) (A : Atoms 𝓤) (at-mem : 
             → Walk vs t (seq (assign (place i []) (rvOpd (copy (place 1 (deref phy-laws.mir ∷ field 0 ∷ []))))) a) Q
         reads-core t is-core r is w = copies ! is-core (core-loads t r) (core-data .typed (t .core) is) w
 
-        data-loads : (t : DaliBitbangPhy) {vs : Held} → Lent vs → Loads vs t (field 1 ∷ []) (bytes-data .val (t .«rx_data»))
-        data-loads t r = field-behind ! b o 1 refl r refl
+        hb-loads : (t : DaliBitbangPhy) {vs : Held} → Lent vs → Loads vs t (field 1 ∷ []) (hb-data .val (t .«tx_hb»))
+        hb-loads t r = field-behind ! b o 1 refl r refl
 
-        hb-loads : (t : DaliBitbangPhy) {vs : Held} → Lent vs → Loads vs t (field 2 ∷ []) (hb-data .val (t .«tx_hb»))
-        hb-loads t r = field-behind ! b o 2 refl r refl
+        data-loads : (t : DaliBitbangPhy) {vs : Held} → Lent vs → Loads vs t (field 2 ∷ []) (bytes-data .val (t .«rx_data»))
+        data-loads t r = field-behind ! b o 2 refl r refl
 
         -- a statement that stores x into the field k, before a
         abbrev into : ℕ → Operand → Body
@@ -285,10 +285,10 @@ module _ {M : Type 1} (𝓤 : URA M) (H : Heap 𝓤) (A : Atoms 𝓤) (at-mem : 
         module _ (fields : Fields s) (is : Good core-data c) where
           -- a station with the core d and the capture bytes
           made-of : (d : Core) → Good core-data d → (bytes : Samples) → Good bytes-data bytes → Good Station (withCore (withData h bytes) d)
-          made-of d is-d bytes is-bytes = station-owed (withCore (withData h bytes) d) (is-d, (is-bytes, fields .1 .1))
+          made-of d is-d bytes is-bytes = station-owed (withCore (withData h bytes) d) (is-d, (fields .1 .0, (is-bytes, fields .1 .1 .1)))
 
           was : Good Station h
-          was = made-of c is (s .«rx_data») (fields .1 .0)
+          was = made-of c is (s .«rx_data») (fields .1 .1 .0)
 
           with-rx : {x : Rx} → Good rx-data x → Good core-data (withRx c x)
           with-rx {x} is-x =
@@ -331,7 +331,7 @@ module _ {M : Type 1} (𝓤 : URA M) (H : Heap 𝓤) (A : Atoms 𝓤) (at-mem : 
               ifs ! (held ! refl refl)
               (λ up. asks ! fm (known .count-idle .at (c, tt) (is, tt)) (also ! (held ! refl refl) (end !)) refl (λ good.
               stores-within ! b o 0 2 refl refl (part ! (2 ∷ []) refl refl refl (sub ! 2 refl (whole !))) refl refl refl (bus-data .typed (silent c .bus) (bus-of (silent c) good)) ∵ so-left h (silent c) (counts-bus c) ∵
-              tells (withCore h (silent c)) (silent c) refl refl refl (made-of (silent c) good (s .«rx_data») (fields .1 .0)) (counts s high up e) refl))
+              tells (withCore h (silent c)) (silent c) refl refl refl (made-of (silent c) good (s .«rx_data») (fields .1 .1 .0)) (counts s high up e) refl))
               (λ down. asks ! fm (known .tick-idle .at (c, (false, tt)) (is, (refl, tt))) (also ! (held ! refl refl) (also ! (literal ! (false-lit !)) (end !))) refl (λ good. leaf h (idleTick c false) refl refl refl was good (falls s high down e) refl))
 
           receiving : c .bus .«bus_state» ≡ states.Rx → Walk (heard-locals states.Rx) h body.s-6 Then
@@ -340,22 +340,22 @@ module _ {M : Type 1} (𝓤 : URA M) (H : Heap 𝓤) (A : Atoms 𝓤) (at-mem : 
               copies ! refl (part ! (4 ∷ []) {v = rx-data .val (c .rx)} refl refl refl (sub ! 4 refl (whole !))) (rx-data .typed (c .rx) (rx-of c is)) ∵
               tests ! (eighth (c .rx)) refl (part ! (2 ∷ []) refl refl refl (sub ! 2 refl (whole !))) (literal ! (lit ! tt)) tt refl ∵
               ifs ! (held ! refl refl)
-              (λ full. copies ! refl (data-loads h refl) (bytes-data .typed (s .«rx_data») (fields .1 .0)) ∵
-              asks ! fm (known .fill .at (s .«rx_data», (c .rx, (high, tt))) (fields .1 .0, (rx-of c is, (refl, tt)))) (also ! (held ! refl refl) (also ! (held ! refl refl) (also ! (held ! refl refl) (end !)))) refl (λ good.
-              stores-field-last ! b o 1 refl refl (held ! refl refl) refl (bytes-data .typed (withEighth s high) good) ∵
+              (λ full. copies ! refl (data-loads h refl) (bytes-data .typed (s .«rx_data») (fields .1 .1 .0)) ∵
+              asks ! fm (known .fill .at (s .«rx_data», (c .rx, (high, tt))) (fields .1 .1 .0, (rx-of c is, (refl, tt)))) (also ! (held ! refl refl) (also ! (held ! refl refl) (also ! (held ! refl refl) (end !)))) refl (λ good.
+              stores-field-last ! b o 2 refl refl (held ! refl refl) refl (bytes-data .typed (withEighth s high) good) ∵
               sampling (withEighth s high) good (fills s high full) e refl refl refl refl))
-              (λ few. sampling (s .«rx_data») (fields .1 .0) (keeps s high few) e refl refl refl refl)
+              (λ few. sampling (s .«rx_data») (fields .1 .1 .0) (keeps s high few) e refl refl refl refl)
 
           sending : c .bus .«bus_state» ≡ states.Tx → Walk (heard-locals states.Tx) h body.s-6 Then
           sending e =
-              chooses ! 2 (tag ! refl refl (vrt ! refl (fld ! refl (stop !)))) refl ∵ copies ! refl (hb-loads h refl) (hb-data .typed (s .«tx_hb») (fields .1 .1 .0)) ∵ reads-core h refl refl is ∵
-              asks ! fm (known .holds .at (c, (s .«tx_hb», (high, tt))) (is, (fields .1 .1 .0, (refl, tt)))) (also ! (held ! refl refl) (also ! (held ! refl refl) (also ! (held ! refl refl) (end !)))) refl (λ _.
+              chooses ! 2 (tag ! refl refl (vrt ! refl (fld ! refl (stop !)))) refl ∵ copies ! refl (hb-loads h refl) (hb-data .typed (s .«tx_hb») (fields .1 .0)) ∵ reads-core h refl refl is ∵
+              asks ! fm (known .holds .at (c, (s .«tx_hb», (high, tt))) (is, (fields .1 .0, (refl, tt)))) (also ! (held ! refl refl) (also ! (held ! refl refl) (also ! (held ! refl refl) (end !)))) refl (λ _.
               ifs ! (held ! refl refl)
               (λ more. asks ! fm (known .hold-half-bit .at (c, tt) (is, tt)) (also ! (held ! refl refl) (end !)) refl (λ good.
               stores-within ! b o 0 3 refl refl (part ! (3 ∷ []) refl refl refl (sub ! 3 refl (whole !))) refl refl refl (tx-data .typed (kept c .tx) (tx-of (kept c) good)) ∵ so-left h (kept c) (holds-tx c) ∵
-              tells (withCore h (kept c)) (kept c) refl refl refl (made-of (kept c) good (s .«rx_data») (fields .1 .0)) (holds s high e more) refl))
+              tells (withCore h (kept c)) (kept c) refl refl refl (made-of (kept c) good (s .«rx_data») (fields .1 .1 .0)) (holds s high e more) refl))
               (λ _. reads-core h refl refl is ∵
-              asks ! fm (known .tick-tx .at (c, (s .«tx_hb», (high, tt))) (is, (fields .1 .1 .0, (refl, tt)))) (also ! (held ! refl refl) (also ! (held ! refl refl) (also ! (held ! refl refl) (end !)))) refl (λ good.
+              asks ! fm (known .tick-tx .at (c, (s .«tx_hb», (high, tt))) (is, (fields .1 .0, (refl, tt)))) (also ! (held ! refl refl) (also ! (held ! refl refl) (also ! (held ! refl refl) (end !)))) refl (λ good.
               leaf h (txTick c (s .«tx_hb») high) refl refl refl was good (sends s high e) refl)))
 
           breaking : c .bus .«bus_state» ≡ states.CollisionTx → Walk (heard-locals states.CollisionTx) h body.s-6 Then

@@ -12,7 +12,7 @@ new-requires c κs = search needs
 
 returns : tie.Need-returns
 unfolding newStation
-returns c = simp (← c .new .ensures, ← c .before .new-core .ensures)
+returns c = simp (← c .new .ensures, ← c .before .before .new-core .ensures)
 
 pub new-spec : {M : Type 1} → statement M
 new-spec = tie.close (tie.spec new-core-requires new-requires returns)
