@@ -17,7 +17,7 @@ use Rattle.fsm.specs.Polling.{polled}
 use Rattle.fsm.specs.Calls.{withPolicy, tookIdle, hasEvent, acknowledged, tookRx}
 use Rattle.reached.specs.Calls.{Call, tick, start-tx, start-answer, poll, take-idle, take-rx, acknowledge, policy, after, isBetween}
 
--- all of a station but its marks and its policy
+-- all of a station but its marks and its policy; of its last event, what is told
 pub record Same (s t : DaliBitbangPhy) : Type 0 where
   pub runs : t .core .runs ≡ s .core .runs
   pub bus : t .core .bus ≡ s .core .bus
