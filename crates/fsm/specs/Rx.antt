@@ -13,7 +13,7 @@ use Rattle.machine.specs.Idle.{entered}
 use Rattle.machine.specs.declared.RxState.the-variants.{Completed}
 use Rattle.machine.specs.declared.Rx.{Rx}
 use Rattle.machine.specs.declared.Core.{Core}
-use Rattle.fsm.specs.Station.{withCore, withData, withEvent}
+use Rattle.fsm.specs.Station.{withCore, withRxData, withEvent}
 use Rattle.fsm.specs.declared.DaliBitbangPhy.{DaliBitbangPhy}
 
 -- ---- one sample
@@ -77,7 +77,7 @@ finished c r =
 
 -- The samples so far, their count and the silence before them are the event. Bytes past the count are what earlier captures left.
 unfoldable pub notified : DaliBitbangPhy → Core → Samples → DaliBitbangPhy
-notified s c samples = withEvent (withData (withCore s c) samples) samples (c .rx)
+notified s c samples = withEvent (withRxData (withCore s c) samples) samples (c .rx)
 
 -- ---- a tick
 -- A station whose core (`c`) has heard the level, and whose capture has its sample. The sixteenth high running writes 0xFF at the position and ends
@@ -85,7 +85,7 @@ notified s c samples = withEvent (withData (withCore s c) samples) samples (c .r
 unfoldable pub wentOn : DaliBitbangPhy → Core → Rx → Samples → DaliBitbangPhy
 wentOn s c r samples =
     pick (goesOn r)
-    (withData (withCore s (withRx c r)) samples)
+    (withRxData (withCore s (withRx c r)) samples)
     (notified s (finished c r) (withByte samples (r .«rx_pos») 255))
 
 unfoldable pub rxTick : DaliBitbangPhy → Core → Bool → DaliBitbangPhy

@@ -74,8 +74,8 @@ withTxHb s hb = record {
 }
 
 -- another capture in the making
-abbrev pub withData : DaliBitbangPhy → Samples → DaliBitbangPhy
-withData s samples = record {
+abbrev pub withRxData : DaliBitbangPhy → Samples → DaliBitbangPhy
+withRxData s samples = record {
   core = s .core;
   «tx_hb» = s .«tx_hb»;
   «rx_data» = samples;

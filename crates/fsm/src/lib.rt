@@ -397,7 +397,7 @@ impl DaliBitbangPhy {
         self
     }
 
-    // The event is ready.
+    // The capture that has ended is the last event.
     pub fn finish_rx_and_notify(mut self, core: Core, rx_data: Samples) -> DaliBitbangPhy
         ensures { λ r. ⌜ r ≡ notified self core «rx_data» ⌝ }
     {

@@ -1,5 +1,5 @@
 // The thin form of the tick, for a host that keeps its station in one place and ticks it from an interrupt, as document 01 has it. `in_place` has the
-// form that copies no station; both promise the same.
+// form that changes it where it lies; both promise the same.
 ghost use mathlib.Core.Path.{_≡_};
 ghost use Rattle.fsm.specs.Ticking.{ticked};
 use fsm::DaliBitbangPhy;

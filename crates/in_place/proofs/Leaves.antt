@@ -17,7 +17,7 @@ use Rattle.machine.specs.declared.Core.{Core}
 use Rattle.machine.specs.declared.Rx.{Rx}
 use Rattle.fsm.specs.declared.DaliBitbangPhy.{DaliBitbangPhy}
 use Rattle.fsm.specs.declared.Ticked.{Ticked}
-use Rattle.fsm.specs.Station.{withCore, withData}
+use Rattle.fsm.specs.Station.{withCore, withRxData}
 use Rattle.fsm.specs.Rx.{shifted, eighth, sampled, filled, goesOn, finished, notified, wentOn, rxTick}
 use Rattle.fsm.specs.Ticking.{actOf, ticked}
 use Rattle.fsm.proofs.Ticks.{acted}
@@ -98,7 +98,7 @@ module _ (s : DaliBitbangPhy) (high : Bool) where
   withEnd bytes = withByte bytes (rxOf .«rx_pos») 255
 
   abbrev pub captured : Samples → DaliBitbangPhy
-  captured bytes = notified (withData hearing bytes) (finished hears rxOf) (withEnd bytes)
+  captured bytes = notified (withRxData hearing bytes) (finished hears rxOf) (withEnd bytes)
 
   -- its core is that of the capture's end
   pub captured-core : (bytes : Samples) → captured bytes .core ≡ finished hears rxOf
@@ -106,9 +106,9 @@ module _ (s : DaliBitbangPhy) (high : Bool) where
   captured-core bytes = refl
 
   module _ (e : Is bus.Rx) (bytes : Samples) (same : bytes ≡ dataOf) where
-    pub goes-on : goesOn rxOf ≡ true → driving (withCore (withData s bytes) (withRx hears rxOf)) ≡ ticked s high
+    pub goes-on : goesOn rxOf ≡ true → driving (withCore (withRxData s bytes) (withRx hears rxOf)) ≡ ticked s high
     unfolding actOf rxTick wentOn
-    goes-on g = leaves bus.Rx e _ (ap (λ (x : Samples). withCore (withData s x) (withRx hears rxOf)) same ∙ sym (on-true g _ _))
+    goes-on g = leaves bus.Rx e _ (ap (λ (x : Samples). withCore (withRxData s x) (withRx hears rxOf)) same ∙ sym (on-true g _ _))
 
     pub ends : goesOn rxOf ≡ false → driving (captured bytes) ≡ ticked s high
     unfolding actOf rxTick wentOn notified

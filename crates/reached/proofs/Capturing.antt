@@ -26,7 +26,7 @@ use Rattle.machine.specs.BecomingIdle.{idled}
 use Rattle.machine.specs.Idle.{entered, idleTick, silent, fell}
 use Rattle.fsm.specs.Rx.{shifted, highRun, sampled, filled, goesOn, finished, notified, wentOn, rxTick, noneSampled}
 use Rattle.fsm.specs.declared.DaliBitbangPhy.{DaliBitbangPhy}
-use Rattle.fsm.specs.Station.{lastBytes, lastCount, withCore, withData}
+use Rattle.fsm.specs.Station.{lastBytes, lastCount, withCore, withRxData}
 use Rattle.fsm.specs.Ticking.{actOf, tickOf}
 use Rattle.reached.specs.Ticks.{IsIdle, IsCapturing, highsRunning}
 use Rattle.reached.specs.OverTicks as over
@@ -130,7 +130,7 @@ module _ (level : ℕ → Bool) where
 -- ---- a tick in Rx
 module _ (s : DaliBitbangPhy) (high : Bool) (in-rx : IsCapturing s) where
   tick-on : goesOn (sampled (s .core .rx) high) ≡ true
-      → tickOf s high ≡ withData (withCore s (withRx (heardOf (s .core) high) (sampled (s .core .rx) high))) (filled (s .«rx_data») (s .core .rx) high)
+      → tickOf s high ≡ withRxData (withCore s (withRx (heardOf (s .core) high) (sampled (s .core .rx) high))) (filled (s .«rx_data») (s .core .rx) high)
   unfolding rxTick wentOn heardOf
   tick-on e = tick-rx s high in-rx ∙ simp (on-true e)
 

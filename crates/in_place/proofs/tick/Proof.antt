@@ -1,6 +1,6 @@
 -- `in_place::tick` meets its contract. The borrow checker has no plan for a struct behind a reference, so this is a walk of the function's MIR
 -- by hand, with walk's steps: the loan is opened, the core hears the level and its runs are stored, and each arm of the match reads the core again,
--- stores the group that it changes or all of it, and ends in `tells`, which closes the loan. All that is known of a callee is what it answers
+-- stores the group that it changes, the core or the station, and ends in `tells`, which closes the loan. All that is known of a callee is what it answers
 -- (`Known`). That what each arm leaves is a tick, and which group alone it changes, is Leaves's. Assumes nothing.
 use mathlib.Core.Path.{_≡_, refl, sym, ap, subst}
 use Prim.Native.Nat.{ℕ, min}
@@ -87,7 +87,7 @@ use Rattle.fsm.proofs.with_end.Symbol as with-end-code
 use Rattle.fsm.proofs.with_end.Met as with-end-met
 use Rattle.fsm.proofs.DaliBitbangPhy.finish_rx_and_notify.Symbol as finish-code
 use Rattle.fsm.proofs.DaliBitbangPhy.finish_rx_and_notify.Met as finish-met
-use Rattle.fsm.specs.Station.{withCore, withData}
+use Rattle.fsm.specs.Station.{withCore, withRxData}
 use Rattle.fsm.specs.Rx.{shifted, eighth, sampled, goesOn, finished, notified}
 use Rattle.fsm.specs.Ticking.{ticked}
 use Rattle.fsm.specs.declared.DaliBitbangPhy.{DaliBitbangPhy}
@@ -284,8 +284,8 @@ module _ {M : Type 1} (𝓤 : URA M) (H : Heap 𝓤) (A : Atoms 𝓤) (at-mem : 
 
         module _ (fields : Fields s) (is : Good core-data c) where
           -- a station with the core d and the capture bytes
-          made-of : (d : Core) → Good core-data d → (bytes : Samples) → Good bytes-data bytes → Good Station (withCore (withData h bytes) d)
-          made-of d is-d bytes is-bytes = station-owed (withCore (withData h bytes) d) (is-d, (fields .1 .0, (is-bytes, fields .1 .1 .1)))
+          made-of : (d : Core) → Good core-data d → (bytes : Samples) → Good bytes-data bytes → Good Station (withCore (withRxData h bytes) d)
+          made-of d is-d bytes is-bytes = station-owed (withCore (withRxData h bytes) d) (is-d, (fields .1 .0, (is-bytes, fields .1 .1 .1)))
 
           was : Good Station h
           was = made-of c is (s .«rx_data») (fields .1 .1 .0)
@@ -303,26 +303,26 @@ module _ {M : Type 1} (𝓤 : URA M) (H : Heap 𝓤) (A : Atoms 𝓤) (at-mem : 
             abbrev left : DaliBitbangPhy
             left = captured s high d
 
-            had : Good Station (withData h d)
+            had : Good Station (withRxData h d)
             had = made-of c is d is-d
 
-            ending : {vs : Held} → Good rx-data r → goesOn r ≡ false → Lent vs → vs 10 ≡ some (core-data .val c) → vs 13 ≡ some (rx-data .val r) → Walk vs (withData h d) after-sampling Then
+            ending : {vs : Held} → Good rx-data r → goesOn r ≡ false → Lent vs → vs 10 ≡ some (core-data .val c) → vs 13 ≡ some (rx-data .val r) → Walk vs (withRxData h d) after-sampling Then
             ending is-r many lent has-core has-rx =
                 asks ! fm (known .end-rx .at (c, (r, tt)) (is, (is-r, tt))) (also ! (held ! refl has-core) (also ! (held ! refl has-rx) (end !))) refl (λ is-end.
-                copies ! refl (data-loads (withData h d) lent) (bytes-data .typed d is-d) ∵
+                copies ! refl (data-loads (withRxData h d) lent) (bytes-data .typed d is-d) ∵
                 asks ! fm (known .with-end .at (d, (r, tt)) (is-d, (is-r, tt))) (also ! (held ! refl refl) (also ! (held ! refl has-rx) (end !))) refl (λ is-full.
-                copies ! refl (behind ! b o [] refl lent refl (whole !)) (Station .typed (withData h d) had) ∵
-                asks ! fm (known .finish .at (withData h d, (finished c r, (full, tt))) (had, (is-end, (is-full, tt)))) (also ! (held ! refl refl) (also ! (held ! refl refl) (also ! (held ! refl refl) (end !)))) refl (λ good.
+                copies ! refl (behind ! b o [] refl lent refl (whole !)) (Station .typed (withRxData h d) had) ∵
+                asks ! fm (known .finish .at (withRxData h d, (finished c r, (full, tt))) (had, (is-end, (is-full, tt)))) (also ! (held ! refl refl) (also ! (held ! refl refl) (also ! (held ! refl refl) (end !)))) refl (λ good.
                 stores ! b o [] refl lent (held ! refl refl) refl (whole !) (Station .typed left good) ∵
                 tells left (finished c r) refl refl (ap (λ (y : Core). y .bus .«driven_high») (sym (captured-core s high d))) good (captures s high e d same many) refl)))
 
             -- and the sample itself
-            sampling : {vs : Held} → Lent vs → vs 2 ≡ some (vbool high) → vs 10 ≡ some (core-data .val c) → vs 11 ≡ some (rx-data .val (c .rx)) → Walk vs (withData h d) after-filling Then
+            sampling : {vs : Held} → Lent vs → vs 2 ≡ some (vbool high) → vs 10 ≡ some (core-data .val c) → vs 11 ≡ some (rx-data .val (c .rx)) → Walk vs (withRxData h d) after-filling Then
             sampling lent has-level has-core has-rx =
                 asks ! fm (known .sample .at (c .rx, (high, tt)) (rx-of c is, (refl, tt))) (also ! (held ! refl has-rx) (also ! (held ! refl has-level) (end !))) refl (λ is-r.
                 tests ! (goesOn r) refl (part ! (3 ∷ []) refl refl refl (sub ! 3 refl (whole !))) (literal ! (lit ! tt)) tt refl ∵
                 ifs ! (held ! refl refl)
-                (λ few. stores-within ! b o 0 4 refl lent (held ! refl refl) refl refl refl (rx-data .typed r is-r) ∵ tells (withCore (withData h d) (withRx c r)) c refl has-core refl (made-of (withRx c r) (with-rx is-r) d is-d) (goes-on s high e d same few) refl)
+                (λ few. stores-within ! b o 0 4 refl lent (held ! refl refl) refl refl refl (rx-data .typed r is-r) ∵ tells (withCore (withRxData h d) (withRx c r)) c refl has-core refl (made-of (withRx c r) (with-rx is-r) d is-d) (goes-on s high e d same few) refl)
                 (λ many. ending is-r many lent has-core refl))
 
           idle : c .bus .«bus_state» ≡ states.Idle → Walk (heard-locals states.Idle) h body.s-6 Then
