@@ -27,7 +27,7 @@ const PHASES: [i8; 5] = [-2, -1, 0, 1, 2];
 const CAPTURES: usize = 3_000;
 const TURNS: usize = 12;
 
-// The proved library `timed`. A reference to an array passes as a pointer.
+// The proved library `timed_decoder`. A reference to an array passes as a pointer.
 extern "C" {
     fn timed_phase(
         samples: &[u8; SAMPLES],
@@ -39,20 +39,20 @@ extern "C" {
     fn timed_sniffed(samples: &[u8; SAMPLES], sample_count: u16) -> u64;
 }
 
-/// The Rust is lent the event as it stands; `timed` makes one of samples and count at each call.
+/// The Rust is lent the event as it stands; `timed_decoder` makes one of samples and count at each call.
 struct Capture {
     samples: [u8; SAMPLES],
     count: u16,
     event: RxCompletedEvent,
 }
 
-/// The same number as `timed` makes of a decode.
+/// The same number as `timed_decoder` makes of a decode.
 fn digest(decode: &PhaseDecode) -> u64 {
     let data = u64::from_be_bytes(decode.data);
     (data >> 32 << 32) + (u64::from(decode.bit_len) << 16) + u64::from(decode.score)
 }
 
-/// The same number as `timed` makes of a reading.
+/// The same number as `timed_decoder` makes of a reading.
 fn sniffed_digest(decode: &SniffedDecode) -> u64 {
     let frame: u32 = match decode.frame {
         SniffedFrame::Forward16(word) => 0x1000_0000 + u32::from(word),

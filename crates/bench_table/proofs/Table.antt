@@ -38,7 +38,7 @@ use Rattle.fsm.specs.Station.{newCore, newStation}
 use Rattle.fsm.specs.Ticking.{actOf, tickOf}
 use Rattle.fsm.specs.Calls.{tookRx}
 use Rattle.rx_decode.specs.Reading.{sniffedOf, searchedIn, foundOr, ticksOf, lowsFirst, longestLow}
-use Rattle.reached.specs.Ticks.{IsIdle, heard}
+use Rattle.station_theorems.specs.Ticks.{IsIdle, heard}
 use Rattle.bench_table.specs.Row.{Says, lengths-hold-nothing, captures-nothing, reads-at-phase-0}
 use Rattle.bench_table.specs.Table.{rows, AllSay, BenchTable}
 use Rattle.bench_table.proofs.Clash.{zeros-against-eighty}

@@ -22,7 +22,7 @@ use Rattle.fsm.specs.Station.{newStation}
 use Rattle.fsm.specs.Calls.{tookRx}
 use Rattle.rx_decode.specs.Reading.{sniffedOf, foundIn, lowRunOf, heldOf}
 use Rattle.bench_line.specs.Line.{newLine}
-use Rattle.reached.specs.Ticks.{heard}
+use Rattle.station_theorems.specs.Ticks.{heard}
 use Rattle.frames.specs.ReadAs.{IsReady, taken}
 use Rattle.line_theorems.specs.OnLine.{Sender, Breaks}
 use Rattle.line_theorems.specs.TwoSenders.{bothOn}

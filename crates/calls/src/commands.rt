@@ -173,7 +173,7 @@ fn policy_of(place: u8) -> fsm::CollisionPolicy {
 // A tick has three forms: by value, in place, which firmware calls, and copied out and back. A `tick` line takes the second, and a `ticks` line all by
 // turns: their answers are the same, and the comparison with the Rust then shows that each of them is right.
 fn tick(kept: Kept, high: bool) -> Answer {
-    let ticked = host::tick_lent(kept.station, high, true);
+    let ticked = copied_tick::tick_lent(kept.station, high, true);
     let next = kept.with_station(ticked.station);
     next.says(Reply::Driven(ticked.driven_high))
 }
@@ -195,7 +195,7 @@ fn ticks(kept: Kept, ops: Operands) -> Answer {
         let ticked = if i % 3 == 0 {
             station.tick(high)
         } else {
-            host::tick_lent(station, high, i % 3 == 1)
+            copied_tick::tick_lent(station, high, i % 3 == 1)
         };
         driven[at] = driven[at] | (ticked.driven_high as u8) << place;
         station = ticked.station;

@@ -26,8 +26,8 @@ use Rattle.fsm.specs.Ticking.{actOf, tickOf}
 use Rattle.machine.specs.States.{hears, isCompleted}
 use Rattle.fsm.specs.Polling.{polled}
 use Rattle.fsm.specs.Calls.{tookRx}
-use Rattle.reached.specs.Calls.{Call, tick, start-tx, start-answer, poll, take-idle, take-rx, acknowledge, policy, after, afterAll, isBetween, Reached, new, called}
-use Rattle.reached.specs.Ticks.{IsIdle, drives, highsRunning}
+use Rattle.station_theorems.specs.Calls.{Call, tick, start-tx, start-answer, poll, take-idle, take-rx, acknowledge, policy, after, afterAll, isBetween, Reached, new, called}
+use Rattle.station_theorems.specs.Ticks.{IsIdle, drives, highsRunning}
 use Rattle.frames.specs.Sends.{Start, by-start-answer, startedBy, takenIn, idleAt}
 use Rattle.frames.specs.ReadAs.{IsReady, HasFrame}
 use Rattle.frames.specs.Hosts.{Host, heardAmid, aloneAmid, Each, keepsTx, keepsRx, keepsCapture, LetsSend, LetsHear}

@@ -16,9 +16,9 @@ use Rattle.fsm.specs.Starting.{startTx, startAnswer}
 use Rattle.machine.specs.States.{isIdle, hears, isTx}
 use Rattle.fsm.specs.Polling.{polled}
 use Rattle.fsm.specs.Calls.{withPolicy, tookIdle, hasEvent, acknowledged, tookRx}
-use Rattle.reached.specs.Calls.{Call, tick, start-tx, start-answer, poll, take-idle, take-rx, acknowledge, policy, after, afterAll, isBetween}
-use Rattle.reached.specs.Ticks.{IsSending, drives, heard, alone}
-use Rattle.reached.proofs.Between.{Same, itself, then, between-same, tx-refused, answer-refused, refused-keeps}
+use Rattle.station_theorems.specs.Calls.{Call, tick, start-tx, start-answer, poll, take-idle, take-rx, acknowledge, policy, after, afterAll, isBetween}
+use Rattle.station_theorems.specs.Ticks.{IsSending, drives, heard, alone}
+use Rattle.station_theorems.proofs.Between.{Same, itself, then, between-same, tx-refused, answer-refused, refused-keeps}
 use Rattle.frames.specs.Hosts.{heardAmid, aloneAmid, Each, keepsTx, keepsRx, keepsCapture}
 use Rattle.frames.specs.Amid.{noCalls, NoCalls}
 

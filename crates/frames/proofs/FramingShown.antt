@@ -17,9 +17,9 @@ use Rattle.halfbits.specs.Frame.{Frame, bits-8, bytesOf, frameBits, AreBytes}
 use Rattle.halfbits.specs.Wave.{low, levelAt}
 use Rattle.fsm.specs.declared.DaliBitbangPhy.{DaliBitbangPhy}
 use Rattle.fsm.specs.Station.{newStation}
-use Rattle.reached.specs.Calls.{Reached, new, called}
-use Rattle.reached.specs.Calls as call
-use Rattle.reached.specs.Ticks.{IsIdle, heard}
+use Rattle.station_theorems.specs.Calls.{Reached, new, called}
+use Rattle.station_theorems.specs.Calls as call
+use Rattle.station_theorems.specs.Ticks.{IsIdle, heard}
 use Rattle.frames.specs.NextFrame.{afterSending}
 use Rattle.frames.specs.ReadAs.{Whole, IsReady, taken, windowIn, frameWeights, ReadAs}
 use Rattle.frames.specs.OneFrame.{OneWave}

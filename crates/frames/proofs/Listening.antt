@@ -15,13 +15,13 @@ use Rattle.event.specs.Event.{eventOf}
 use Rattle.machine.specs.declared.BusState.the-variants as bus
 use Rattle.fsm.specs.declared.DaliBitbangPhy.{DaliBitbangPhy}
 use Rattle.fsm.specs.Ticking.{tickOf}
-use Rattle.reached.specs.Calls.{Reached}
-use Rattle.reached.proofs.Holding.{invariants}
-use Rattle.reached.specs.Ticks.{IsIdle, highsRunning}
-use Rattle.reached.proofs.Between.{Same}
+use Rattle.station_theorems.specs.Calls.{Reached}
+use Rattle.station_theorems.proofs.Holding.{invariants}
+use Rattle.station_theorems.specs.Ticks.{IsIdle, highsRunning}
+use Rattle.station_theorems.proofs.Between.{Same}
 use Rattle.frames.specs.ReadAs.{Whole, FitsCapture}
 use Rattle.frames.specs.Hosts.{Host, heardAmid, LetsHear}
-use Rattle.reached.proofs.Capturing.{Stored, Hearing, hearing-kept, Captured, hearing-next, captured-next, captured-stays, first-low, second-low}
+use Rattle.station_theorems.proofs.Capturing.{Stored, Hearing, hearing-kept, Captured, hearing-next, captured-next, captured-stays, first-low, second-low}
 use Rattle.frames.proofs.Between.{markOf, all-kept, all-in-rx, all-between, all-marks}
 use Rattle.frames.proofs.Waving.{lastLow, after-last, short, sixteen, runs-on, lowIn-bounds}
 

@@ -16,8 +16,8 @@ use Rattle.rx_decode.specs.declared.SniffedFrame.{SniffedFrame}
 use Rattle.rx_decode.specs.declared.SniffedFrame.the-variants.{Forward16, Backward8, Forward24, UnsupportedLength, DecodeFailed}
 use Rattle.rx_decode.specs.Reading.{frameOf}
 use Rattle.fsm.specs.Station.{newCore, newStation}
-use Rattle.reached.specs.Calls.{new}
-use Rattle.reached.specs.Ticks.{drives, alone}
+use Rattle.station_theorems.specs.Calls.{new}
+use Rattle.station_theorems.specs.Ticks.{drives, alone}
 use Rattle.frames.specs.Sends.{by-start-tx, startedBy, Sent}
 use Rattle.frames.specs.ReadAs.{frameWeights, kindOf}
 use Rattle.frames.specs.OneFrame.{OneWave, OneWaveOneRow, OneWaveOneFrame, OneStoreOneFrame, OneReadingOneFrame}

@@ -28,7 +28,7 @@ use Rattle.frames.specs.ReadAs.{FitsCapture, taken, IsReady, windowIn, c
 use Rattle.frames.specs.WaveToFrame.{WaveToBits}
 use Rattle.frames.specs.Hosts.{Each, LetsHear}
 use Rattle.frames.specs.Amid.{noCalls, WaveToBitsAmid}
-use Rattle.reached.proofs.Capturing.{digit, Captured}
+use Rattle.station_theorems.proofs.Capturing.{digit, Captured}
 use Rattle.frames.proofs.Between.{no-calls}
 use Rattle.frames.proofs.Waving.{lastLow, lowIn-bounds, after-last}
 use Rattle.frames.proofs.Listening.{late, Caught, catches}

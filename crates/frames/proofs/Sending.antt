@@ -29,10 +29,10 @@ use Rattle.fsm.specs.declared.TxPollResult.the-variants.{Ok, Transmitting}
 use Rattle.fsm.specs.Starting.{lengthFits, startedWith, loadedWith, started, startTx, startAnswer}
 use Rattle.machine.specs.States.{isIdle, hears, isTx}
 use Rattle.fsm.specs.Polling.{polled}
-use Rattle.reached.specs.Calls.{after, Reached, called}
-use Rattle.reached.specs.Calls as call
-use Rattle.reached.proofs.Holding.{invariants}
-use Rattle.reached.specs.Ticks.{drives, IsIdle, IsSending, alone}
+use Rattle.station_theorems.specs.Calls.{after, Reached, called}
+use Rattle.station_theorems.specs.Calls as call
+use Rattle.station_theorems.proofs.Holding.{invariants}
+use Rattle.station_theorems.specs.Ticks.{drives, IsIdle, IsSending, alone}
 use Rattle.frames.specs.Sends.{Start, by-start-tx, by-start-answer, startedBy, takenIn, MayStart, FitsBuffer, idleAt, SendsAt, Sends}
 use Rattle.frames.specs.FrameToWave.{BitsToWave, FrameToWave}
 use Rattle.frames.specs.NextFrame.{Sending, AllFit, afterSending, firstOf, NextFrameToWave}

@@ -23,9 +23,9 @@ use Rattle.fsm.specs.Station.{newCore, newStation}
 use Rattle.fsm.specs.Ticking.{actOf, tickOf}
 use Rattle.machine.specs.States.{isIdle, hears}
 use Rattle.fsm.specs.Starting.{startTx}
-use Rattle.reached.specs.Calls.{after, Reached, new, called}
-use Rattle.reached.specs.Calls as call
-use Rattle.reached.specs.Ticks.{drives, IsIdle, IsSending, alone}
+use Rattle.station_theorems.specs.Calls.{after, Reached, new, called}
+use Rattle.station_theorems.specs.Calls as call
+use Rattle.station_theorems.specs.Ticks.{drives, IsIdle, IsSending, alone}
 use Rattle.frames.specs.Sends.{Start, by-start-tx, by-start-answer, startedBy, takenIn, Sent}
 use Rattle.frames.specs.NextFrame.{Sending, AllFit, afterSending, firstOf}
 use Rattle.frames.proofs.Sending.{idle-may, frame-to-wave, next-frame-to-wave}

@@ -27,9 +27,9 @@ use Rattle.machine.specs.Sending.{Step, Arm, End, Hold, Drive, clashOf, release
 use Rattle.fsm.specs.declared.DaliBitbangPhy.{DaliBitbangPhy}
 use Rattle.fsm.specs.Station.{withCore}
 use Rattle.fsm.specs.Ticking.{actOf, tickOf}
-use Rattle.reached.specs.Ticks.{drives, IsIdle, IsSending}
-use Rattle.reached.specs.Calls.{Call, afterAll, isBetween}
-use Rattle.reached.proofs.Between.{Same}
+use Rattle.station_theorems.specs.Ticks.{drives, IsIdle, IsSending}
+use Rattle.station_theorems.specs.Calls.{Call, afterAll, isBetween}
+use Rattle.station_theorems.proofs.Between.{Same}
 use Rattle.frames.specs.Sends.{FitsBuffer}
 use Rattle.frames.specs.Hosts.{Each, keepsTx}
 use Rattle.frames.proofs.Between.{Clear, all-kept, all-clear, all-in-tx}

@@ -13,7 +13,7 @@ use Rattle.laws.specs.Packed.{packed}
 use Rattle.laws.proofs.Picked.{on-true}
 use Rattle.laws.proofs.Digits.{packed-digit, bit-lt}
 use Rattle.window.specs.Window.{windowOf, levelOf, tickAt}
-use Rattle.reached.proofs.Capturing.{digit, Stored}
+use Rattle.station_theorems.proofs.Capturing.{digit, Stored}
 
 -- the level of a tick in its byte
 in-byte : (f : ℕ → ℕ) → ((i : ℕ) → f i < 2) → (p byte : ℕ) → byte ≡ packed 2 8 f → byte / 2 ^ (7 - p % 8) % 2 ≡ f (p % 8)

@@ -10,7 +10,7 @@ use lib.ListN.{length}
 use Rattle.laws.proofs.Picked.{on-true, on-false, cases}
 use Rattle.halfbits.specs.Wave.{high, low, levelAt}
 use Rattle.halfbits.proofs.Levels.{bitOf, first-level, second-level, later-level}
-use Rattle.reached.specs.Ticks.{highsRunning}
+use Rattle.station_theorems.specs.Ticks.{highsRunning}
 
 -- ---- any levels
 module _ (level : ℕ → Bool) (j : ℕ) (falls : level j ≡ low) where

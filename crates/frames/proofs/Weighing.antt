@@ -25,7 +25,7 @@ use Rattle.window.proofs.Turns.{at-end, at-most}
 use Rattle.halfbits.specs.Wave.{high, bitWave, levelAt}
 use Rattle.halfbits.proofs.Levels.{bitOf, eight, in-bit, later-level}
 use Rattle.frames.specs.ReadAs.{cleanWeight, cleanWeights, frameWeights}
-use Rattle.reached.proofs.Capturing.{digit}
+use Rattle.station_theorems.proofs.Capturing.{digit}
 use Rattle.frames.proofs.Listening.{late}
 
 -- ---- eight of some levels as a byte, j behind the first

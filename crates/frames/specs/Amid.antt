@@ -11,8 +11,8 @@ use Rattle.halfbits.specs.HalfBits.{bufferOf}
 use Rattle.halfbits.specs.Encoding.{isBitCount, frameOf, encodedOf}
 use Rattle.fsm.specs.declared.DaliBitbangPhy.{DaliBitbangPhy}
 use Rattle.fsm.specs.declared.StartAnswer.the-variants as start
-use Rattle.reached.specs.Calls.{Reached}
-use Rattle.reached.specs.Ticks.{IsIdle, heard, alone}
+use Rattle.station_theorems.specs.Calls.{Reached}
+use Rattle.station_theorems.specs.Ticks.{IsIdle, heard, alone}
 use Rattle.frames.specs.Sends.{Start, startedBy, MayStart, FitsBuffer, SendsAt}
 use Rattle.frames.specs.ReadAs.{Whole, FitsCapture, HasBits, HasFrame}
 use Rattle.frames.specs.Hosts.{Host, heardAmid, aloneAmid, LetsSend, LetsHear}

@@ -7,7 +7,7 @@ use Rattle.halfbits.specs.Frame.{frameBits}
 use Rattle.halfbits.specs.HalfBits.{bufferOf}
 use Rattle.halfbits.specs.Encoding.{isBitCount, frameOf, encodedOf}
 use Rattle.fsm.specs.declared.DaliBitbangPhy.{DaliBitbangPhy}
-use Rattle.reached.specs.Calls.{Reached}
+use Rattle.station_theorems.specs.Calls.{Reached}
 use Rattle.frames.specs.Sends.{Start, MayStart, FitsBuffer, Sent}
 
 -- Any station that calls lead to, whatever they were, takes a start where that is allowed and sends any bits that fit.

@@ -5,8 +5,8 @@ use mathlib.Core.List.{List, [], _∷_}
 use mathlib.Core.Path.{_≡_}
 use Rattle.fsm.specs.declared.DaliBitbangPhy.{DaliBitbangPhy}
 use Rattle.fsm.specs.Ticking.{tickOf}
-use Rattle.reached.specs.Calls.{Call, tick, start-tx, start-answer, poll, take-idle, take-rx, acknowledge, policy, afterAll, isBetween}
-use Rattle.reached.specs.Ticks.{drives}
+use Rattle.station_theorems.specs.Calls.{Call, tick, start-tx, start-answer, poll, take-idle, take-rx, acknowledge, policy, afterAll, isBetween}
+use Rattle.station_theorems.specs.Ticks.{drives}
 use Rattle.frames.specs.Sends.{idleAt}
 use Rattle.frames.specs.ReadAs.{Whole}
 

@@ -4,8 +4,8 @@ use mathlib.Core.List.{List, [], _∷_}
 use lib.ListN.{length}
 use Rattle.halfbits.specs.HalfBits.{bufferOf}
 use Rattle.fsm.specs.declared.DaliBitbangPhy.{DaliBitbangPhy}
-use Rattle.reached.specs.Calls.{Reached}
-use Rattle.reached.specs.Ticks.{alone}
+use Rattle.station_theorems.specs.Calls.{Reached}
+use Rattle.station_theorems.specs.Ticks.{alone}
 use Rattle.frames.specs.Sends.{Start, startedBy, MayStart, FitsBuffer, idleAt, Sent}
 
 -- bits to be sent, and the call that is given them

@@ -21,7 +21,7 @@ use Rattle.rx_decode.specs.declared.SniffedFrame.{SniffedFrame}
 use Rattle.rx_decode.specs.declared.SniffedFrame.the-variants.{Forward16, Backward8, Forward24}
 use Rattle.rx_decode.specs.declared.BackwardByte.the-variants.{Byte}
 use Rattle.rx_decode.specs.Reading.{sniffedOf, searchedIn, foundIn, byteIn}
-use Rattle.reached.specs.Ticks.{IsIdle, highsRunning}
+use Rattle.station_theorems.specs.Ticks.{IsIdle, highsRunning}
 
 -- ---- what is heard
 -- The wave has been heard whole: at least sixteen ticks from its last low one on were high, the last bit's own high half among them.

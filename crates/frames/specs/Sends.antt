@@ -15,7 +15,7 @@ use Rattle.fsm.specs.declared.TxPollResult.the-variants.{Ok, Transmitting}
 use Rattle.fsm.specs.Starting.{startTx, startAnswer}
 use Rattle.machine.specs.States.{isIdle, hears}
 use Rattle.fsm.specs.Polling.{polled}
-use Rattle.reached.specs.Ticks.{drives, IsIdle, IsSending, alone}
+use Rattle.station_theorems.specs.Ticks.{drives, IsIdle, IsSending, alone}
 
 -- ---- what is sent
 -- the two calls that start a frame

@@ -5,8 +5,8 @@ use mathlib.Core.List.{List}
 use Rattle.halfbits.specs.Frame.{Frame, bytesOf, frameBits, AreBytes}
 use Rattle.halfbits.specs.Wave.{levelAt}
 use Rattle.fsm.specs.declared.DaliBitbangPhy.{DaliBitbangPhy}
-use Rattle.reached.specs.Calls.{Reached}
-use Rattle.reached.specs.Ticks.{IsIdle, heard}
+use Rattle.station_theorems.specs.Calls.{Reached}
+use Rattle.station_theorems.specs.Ticks.{IsIdle, heard}
 use Rattle.frames.specs.ReadAs.{Whole, FitsCapture, HasBits, HasFrame}
 
 -- Any Idle station that calls lead to, debouncing or not, that hears a wave whole has its bits in a capture that is ready.

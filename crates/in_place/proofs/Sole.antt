@@ -1,4 +1,4 @@
--- Any two answers that meet the promise of `tick` are equal, and so are the stations that it leaves behind its reference (see host's Sole). Assumes
+-- Any two answers that meet the promise of `tick` are equal, and so are the stations that it leaves behind its reference (see copied_tick's Sole). Assumes
 -- nothing.
 use mathlib.Core.Path.{_≡_}
 use mathlib.Core.Bool.{Bool}

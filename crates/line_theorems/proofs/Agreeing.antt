@@ -18,7 +18,7 @@ use Rattle.fsm.specs.declared.DaliBitbangPhy.{DaliBitbangPhy}
 use Rattle.machine.specs.States.{hears}
 use Rattle.bench_line.specs.declared.BenchLine.{BenchLine}
 use Rattle.bench_line.specs.Line.{stationsOn, stationAt}
-use Rattle.reached.specs.Ticks.{drives, IsIdle, heard, alone}
+use Rattle.station_theorems.specs.Ticks.{drives, IsIdle, heard, alone}
 use Rattle.frames.specs.Sends.{idleAt, Sends}
 use Rattle.frames.specs.ReadAs.{Whole, IsReady, taken, ReadAs}
 use Rattle.frames.proofs.Waving.{lowIn, lowIn-bounds, lastLow, last-falls, after-last, highs-all}

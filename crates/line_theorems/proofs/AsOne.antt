@@ -11,7 +11,7 @@ use Rattle.machine.specs.States.{hears}
 use Rattle.fsm.specs.Ticking.{tickOf}
 use Rattle.bench_line.specs.declared.BenchLine.{BenchLine}
 use Rattle.bench_line.specs.Line.{stationsOn, stationAt}
-use Rattle.reached.specs.Ticks.{drives, heard, alone}
+use Rattle.station_theorems.specs.Ticks.{drives, heard, alone}
 use Rattle.line_theorems.specs.Reached.{ReachedLine}
 use Rattle.line_theorems.specs.Lines.{LineHolds}
 use Rattle.line_theorems.specs.OnLine.{ticksOn}

@@ -28,8 +28,8 @@ use Rattle.bench_line.specs.declared.LineTookIdle.{LineTookIdle}
 use Rattle.bench_line.specs.declared.LineTookRx.{LineTookRx}
 use Rattle.bench_line.specs.Line.{stationsOn, isOn, stationAt, withStation, lineTicked}
 use Rattle.bench_line.specs.Calls.{changedAt, startedAt, polledAt, tookIdleAt, tookRxAt}
-use Rattle.reached.specs.Calls as station
-use Rattle.reached.specs.Calls.{Call, after, isBetween}
+use Rattle.station_theorems.specs.Calls as station
+use Rattle.station_theorems.specs.Calls.{Call, after, isBetween}
 use Rattle.line_theorems.specs.Reached.{LineCall, tick, start-tx, start-answer, poll, take-idle, take-rx, acknowledge, policy}
 use Rattle.line_theorems.specs.Reached.{lineAfter, ReachedLine, called, lineAfterAll, Each, startsNothing, StartNothing, isTick, ticksIn}
 use Rattle.line_theorems.specs.OnLine.{AllIdle}

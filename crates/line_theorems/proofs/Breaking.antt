@@ -24,7 +24,7 @@ use Rattle.fsm.specs.declared.DaliBitbangPhy.{DaliBitbangPhy}
 use Rattle.fsm.specs.Station.{withCore}
 use Rattle.machine.specs.States.{hears}
 use Rattle.fsm.specs.Ticking.{actOf, tickOf}
-use Rattle.reached.specs.Ticks.{drives, IsIdle, IsSending, heard, IsBreaking}
+use Rattle.station_theorems.specs.Ticks.{drives, IsIdle, IsSending, heard, IsBreaking}
 use Rattle.frames.specs.Sends.{FitsBuffer}
 use Rattle.frames.proofs.SendingTicks.{Sender, ruleOf, clashes, by-rule, hold, drive, pulled-calm}
 use Rattle.line_theorems.proofs.Hearing.{heard-more, Listens}

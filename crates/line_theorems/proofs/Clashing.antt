@@ -18,7 +18,7 @@ use Rattle.fsm.specs.declared.DaliBitbangPhy.{DaliBitbangPhy}
 use Rattle.machine.specs.States.{hears}
 use Rattle.bench_line.specs.declared.BenchLine.{BenchLine}
 use Rattle.bench_line.specs.Line.{stationsOn, stationAt}
-use Rattle.reached.specs.Ticks.{drives, IsIdle, IsSending, heard, alone, IsBreaking}
+use Rattle.station_theorems.specs.Ticks.{drives, IsIdle, IsSending, heard, alone, IsBreaking}
 use Rattle.frames.specs.Sends.{FitsBuffer}
 use Rattle.frames.proofs.SendingTicks.{Sender}
 use Rattle.frames.proofs.Sending.{waving, sends}

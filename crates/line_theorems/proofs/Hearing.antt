@@ -26,13 +26,13 @@ use Rattle.fsm.specs.declared.DaliBitbangPhy.{DaliBitbangPhy}
 use Rattle.fsm.specs.Station.{newStation}
 use Rattle.fsm.specs.Ticking.{actOf, tickOf}
 use Rattle.machine.specs.States.{hears}
-use Rattle.reached.specs.Calls as station
-use Rattle.reached.specs.Calls.{Reached, after}
-use Rattle.reached.proofs.Holding.{invariants}
+use Rattle.station_theorems.specs.Calls as station
+use Rattle.station_theorems.specs.Calls.{Reached, after}
+use Rattle.station_theorems.proofs.Holding.{invariants}
 use Rattle.bench_line.specs.declared.BenchLine.{BenchLine}
 use Rattle.bench_line.specs.Line.{stationsOn, stationAt, levelLeft, lineTicked}
 use Rattle.bench_line.proofs.Laws.{left-high, left-low}
-use Rattle.reached.specs.Ticks.{drives, IsIdle, heard}
+use Rattle.station_theorems.specs.Ticks.{drives, IsIdle, heard}
 use Rattle.line_theorems.specs.Reached.{lineAfter, tick, ReachedLine, called}
 use Rattle.line_theorems.specs.Lines.{LineHolds}
 use Rattle.line_theorems.specs.OnLine.{ticksOn}

@@ -23,8 +23,8 @@ use Rattle.fsm.specs.Starting.{lengthFits, startedWith, loadedWith, started, st
 use Rattle.machine.specs.States.{isIdle, hears, isTx}
 use Rattle.fsm.specs.Polling.{polled}
 use Rattle.fsm.specs.Calls.{withPolicy, tookIdle, hasEvent, acknowledged, tookRx}
-use Rattle.reached.specs.Calls as station
-use Rattle.reached.specs.Calls.{Call, after, Reached}
+use Rattle.station_theorems.specs.Calls as station
+use Rattle.station_theorems.specs.Calls.{Call, after, Reached}
 use Rattle.bench_line.specs.declared.BenchLine.{BenchLine}
 use Rattle.bench_line.specs.declared.LineChanged.{LineChanged}
 use Rattle.bench_line.specs.declared.LineStarted.{LineStarted}
@@ -34,7 +34,7 @@ use Rattle.bench_line.specs.declared.LineTookRx.{LineTookRx}
 use Rattle.bench_line.specs.Line.{stationsOn, isOn, stationAt, withStation, newLine, allTicked, levelLeft, lineTicked}
 use Rattle.bench_line.specs.Refusals.{isCount}
 use Rattle.bench_line.specs.Calls.{changedAt, startedAt, polledAt, tookIdleAt, tookRxAt}
-use Rattle.reached.specs.Ticks.{drives}
+use Rattle.station_theorems.specs.Ticks.{drives}
 use Rattle.line_theorems.specs.Reached.{LineCall, tick, start-tx, start-answer, poll, take-idle, take-rx, acknowledge, policy}
 use Rattle.line_theorems.specs.Reached.{lineAfter, new-line, called}
 use Rattle.line_theorems.specs.Lines.{LineHolds, LineInvariants}

@@ -7,7 +7,7 @@ use mathlib.Core.Path.{_≡_, sym, subst}
 use Rattle.fsm.specs.declared.DaliBitbangPhy.{DaliBitbangPhy}
 use Rattle.bench_line.specs.declared.BenchLine.{BenchLine}
 use Rattle.bench_line.specs.Line.{stationsOn, stationAt}
-use Rattle.reached.specs.Ticks.{IsIdle}
+use Rattle.station_theorems.specs.Ticks.{IsIdle}
 use Rattle.frames.specs.Sends.{idleAt, Sends}
 use Rattle.frames.proofs.Sending.{sends}
 use Rattle.line_theorems.specs.Reached.{ReachedLine}

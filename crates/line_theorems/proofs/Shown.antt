@@ -25,7 +25,7 @@ use Rattle.bench_line.specs.declared.LineStart.the-variants.{Told}
 use Rattle.bench_line.specs.Line.{stationsOn, stationAt, withStation, newLine}
 use Rattle.bench_line.specs.Refusals.{isCount}
 use Rattle.bench_line.specs.Calls.{changedAt}
-use Rattle.reached.specs.Ticks.{IsIdle}
+use Rattle.station_theorems.specs.Ticks.{IsIdle}
 use Rattle.frames.specs.Sends.{Start, by-start-answer}
 use Rattle.line_theorems.specs.Reached.{LineCall, tick, poll, take-idle, take-rx, acknowledge, policy, lineAfter, ReachedLine, new-line, called}
 use Rattle.line_theorems.specs.Reached.{lineAfterAll, Each, startsNothing, StartNothing, Without, isTick, ticksIn}

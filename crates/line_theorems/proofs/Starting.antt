@@ -27,7 +27,7 @@ use Rattle.bench_line.specs.declared.LinePoll.the-variants as poll
 use Rattle.bench_line.specs.declared.LineTold.the-variants as told
 use Rattle.bench_line.specs.Line.{stationsOn, isOn, stationAt, withStation}
 use Rattle.bench_line.specs.Calls.{startedAt, polledAt, tookIdleAt, tookRxAt}
-use Rattle.reached.specs.Ticks.{IsIdle}
+use Rattle.station_theorems.specs.Ticks.{IsIdle}
 use Rattle.frames.specs.Sends.{Start, by-start-tx, by-start-answer, startedBy, FitsBuffer}
 use Rattle.frames.specs.ReadAs.{IsReady, taken, ReadAs}
 use Rattle.frames.proofs.SendingTicks as sending

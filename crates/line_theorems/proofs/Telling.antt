@@ -25,9 +25,9 @@ use Rattle.fsm.specs.Polling.{polled}
 use Rattle.fsm.specs.Calls.{tookIdle, tookRx}
 use Rattle.bench_line.specs.declared.BenchLine.{BenchLine}
 use Rattle.bench_line.specs.Line.{stationAt}
-use Rattle.reached.specs.Calls as station
-use Rattle.reached.specs.Calls.{Call, after, isBetween}
-use Rattle.reached.specs.Ticks.{IsIdle}
+use Rattle.station_theorems.specs.Calls as station
+use Rattle.station_theorems.specs.Calls.{Call, after, isBetween}
+use Rattle.station_theorems.specs.Ticks.{IsIdle}
 use Rattle.frames.specs.ReadAs.{IsReady, taken, ReadAs}
 use Rattle.line_theorems.specs.Reached.{LineCall, poll, take-idle, take-rx, acknowledge, lineAfter, called, lineAfterAll, startsNothing, StartNothing, Without}
 use Rattle.line_theorems.specs.OnLine.{AllIdle, Polls, FindsIdle, HoldsFrame}

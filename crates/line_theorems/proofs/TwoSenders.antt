@@ -18,7 +18,7 @@ use Rattle.machine.specs.Sending.{watchesOf}
 use Rattle.fsm.specs.declared.DaliBitbangPhy.{DaliBitbangPhy}
 use Rattle.bench_line.specs.declared.BenchLine.{BenchLine}
 use Rattle.bench_line.specs.Line.{stationsOn, stationAt}
-use Rattle.reached.specs.Ticks.{IsIdle, heard}
+use Rattle.station_theorems.specs.Ticks.{IsIdle, heard}
 use Rattle.frames.specs.Sends.{Sends}
 use Rattle.frames.proofs.SendingTicks as sending
 use Rattle.frames.proofs.Sending.{sends}

@@ -3,7 +3,7 @@ use Prim.Native.Nat.{ℕ, _≤_, _<_}
 use mathlib.Core.Path.{_≡_}
 use lib.ListN.{length}
 use Rattle.fsm.specs.Station.{newStation}
-use Rattle.reached.specs.Calls.{Reached}
+use Rattle.station_theorems.specs.Calls.{Reached}
 use Rattle.bench_line.specs.declared.BenchLine.{BenchLine}
 use Rattle.bench_line.specs.Line.{stationsOn, stationAt, levelLeft}
 use Rattle.line_theorems.specs.Reached.{ReachedLine}

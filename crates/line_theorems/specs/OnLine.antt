@@ -13,7 +13,7 @@ use Rattle.bench_line.specs.declared.LinePoll.the-variants as polled
 use Rattle.bench_line.specs.declared.LineTold.the-variants as told
 use Rattle.bench_line.specs.Line.{stationsOn, stationAt, lineTicked}
 use Rattle.bench_line.specs.Calls.{startedAt}
-use Rattle.reached.specs.Ticks.{IsIdle, IsSending, IsBreaking}
+use Rattle.station_theorems.specs.Ticks.{IsIdle, IsSending, IsBreaking}
 use Rattle.frames.specs.Sends.{Start, startedBy}
 use Rattle.frames.specs.ReadAs.{ReadAs}
 use Rattle.line_theorems.specs.Reached.{pollOn, takeIdleOn, takeRxOn, lineAfter, poll, take-idle, take-rx}

@@ -120,6 +120,6 @@ pub extern "C" fn timed_ticks(levels: &[u8; LEVELS], passes: u32, sends: bool) -
 pub extern "C" fn first_level(bus_is_high: bool) -> bool
     ensures { λ r. ⌜ r ≡ ticked newStation «bus_is_high» .«driven_high» ⌝ }
 {
-    let ticked = host::tick_lent(DaliBitbangPhy::new(), bus_is_high, true);
+    let ticked = copied_tick::tick_lent(DaliBitbangPhy::new(), bus_is_high, true);
     ticked.driven_high
 }

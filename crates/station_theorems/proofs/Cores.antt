@@ -1,0 +1,369 @@
+-- What every tick and start keeps of a core, by state. Assumes nothing.
+use Prim.Native.Nat.{ℕ, _+_, _*_, _/_, _%_, _≤_, _<_, min}
+use native.Mathlib.Omega.{arith}
+use native.Mathlib.Decide.{decLt}
+use mathlib.Core.Bool.{Bool, true, false, not, _&&_, false≢true}
+use mathlib.Core.Path.{_≡_, refl, sym, ap, subst, _∙_}
+use lib.Dec.{ltb, leb, eqb}
+use borrow.Author.Tests.{ltb-true, ltb-false, eqb-true, eqb-false}
+use Rattle.laws.specs.Pick.{pick}
+use Rattle.laws.proofs.Picked.{on-false, cases}
+use Rattle.machine.specs.declared.BusState.{BusState}
+use Rattle.machine.specs.declared.BusState.the-variants as bus
+use Rattle.machine.specs.declared.Runs.{Runs}
+use Rattle.machine.specs.declared.Bus.{Bus}
+use Rattle.machine.specs.declared.Rx.{Rx}
+use Rattle.machine.specs.declared.RxState.{RxState}
+use Rattle.machine.specs.declared.Told.{Told}
+use Rattle.machine.specs.declared.Tx.{Tx}
+use Rattle.machine.specs.declared.CollisionPolicy.{CollisionPolicy}
+use Rattle.machine.specs.declared.Core.{Core}
+use Rattle.machine.specs.declared.TxHb.{TxHb}
+use Rattle.machine.specs.declared.RxState.the-variants.{Empty, Completed}
+use Rattle.machine.specs.Fields.{withRx, withRxState, withTxCollision, withTxIdleAfterBreak, withTxYielded}
+use Rattle.machine.specs.Runs.{heardOf}
+use Rattle.machine.specs.BecomingIdle.{idled}
+use Rattle.fsm.specs.Rx.{sampled, highRun, finished, goesOn}
+use Rattle.machine.specs.Idle.{idleTick, entered, silent, fell}
+use Rattle.machine.specs.Sending.{Step, Arm, Yield, End, Clash, Hold, Drive, clashOf, txStep, armed, yielded, clashed, held, driven, stepped, txTick}
+use Rattle.machine.specs.Collision.{broke, collisionTick}
+use Rattle.machine.specs.Starting.{loaded}
+use Rattle.station_theorems.specs.Invariants.{isReceiving}
+
+-- ---- in any state
+pub record Any (high low collision : ℕ) (yielded : Bool) : Type 0 where
+  pub one-run : 0 < high → low ≡ 0
+  pub collisions : collision ≤ 1
+  pub either : 0 < collision → yielded ≡ false
+
+abbrev pub AnyOf : Core → Type 0
+AnyOf c = Any (c .runs .«high_run_ticks») (c .runs .«low_run_ticks») (c .told .«tx_collision») (c .told .«tx_yielded»)
+
+-- ---- by state
+pub record InIdle (runs : Runs) (bus : Bus) (mark : RxState) : Type 0 where
+  pub receiving : isReceiving mark ≡ false
+  pub released : bus .«driven_high» ≡ true
+  pub busy : bus .«tx_busy» ≡ false
+  pub debounce : bus .«rx_debounce» ≤ 1
+  pub fell : 0 < bus .«rx_debounce» → runs .«high_run_ticks» ≡ 0
+  pub counted : runs .«high_run_ticks» ≤ bus .idlecnt
+
+pub record InRx (runs : Runs) (bus : Bus) (rx : Rx) (mark : RxState) : Type 0 where
+  pub receiving : isReceiving mark ≡ true
+  pub released : bus .«driven_high» ≡ true
+  pub busy : bus .«tx_busy» ≡ false
+  pub debouncing : 0 < bus .«rx_debounce»
+  pub idle : rx .«rx_idle» ≡ runs .«high_run_ticks»
+  pub short : rx .«rx_idle» ≤ 15
+  pub bits : rx .«rx_bit_cnt» ≤ 7
+  pub place : rx .«rx_pos» ≤ 63
+  pub enough : rx .«rx_pos» < 63 → rx .«rx_idle» + 2 ≤ rx .«rx_pos» * 8 + rx .«rx_bit_cnt»
+
+pub record InTx (sends : Bool) (told : Told) : Type 0 where
+  pub receiving : isReceiving (told .«rx_state») ≡ false
+  pub busy : sends ≡ true
+  pub unmarked : told .«tx_idle_after_break» ≡ false
+  pub clear : told .«tx_collision» ≡ 0
+  pub kept : told .«tx_yielded» ≡ false
+
+pub record InBreak (sends : Bool) (told : Told) : Type 0 where
+  pub receiving : isReceiving (told .«rx_state») ≡ false
+  pub busy : sends ≡ true
+  pub unmarked : told .«tx_idle_after_break» ≡ false
+  pub kept : told .«tx_yielded» ≡ false
+
+unfoldable pub In : BusState → Runs → Bus → Rx → Told → Type 0
+In bus.Idle runs b rx told = InIdle runs b (told .«rx_state»)
+In bus.Rx runs b rx told = InRx runs b rx (told .«rx_state»)
+In bus.Tx runs b rx told = InTx (b .«tx_busy») told
+In bus.CollisionTx runs b rx told = InBreak (b .«tx_busy») told
+
+pub record Good (c : Core) : Type 0 where
+  pub any : AnyOf c
+  pub state : In (c .bus .«bus_state») (c .runs) (c .bus) (c .rx) (c .told)
+
+-- ---- becoming Idle, and Idle's first low after it
+-- what becoming Idle asks for
+record Ended (c : Core) : Type 0 where
+  any : AnyOf c
+  receiving : isReceiving (c .told .«rx_state») ≡ false
+
+idled-good : (c : Core) → Ended c → Good (idled c)
+unfolding idled In
+idled-good c e = record {
+  any = e .any;
+  state = record { receiving = e .receiving; released = refl; busy = refl; debounce = omega arith; fell = λ h. absurd (not-below h); counted = omega arith };
+}
+  where
+    not-below : 0 < 0 → ⊥
+    not-below h = omega (arith, h)
+
+-- the tick that ended it was low
+first-low : (c : Core) → c .runs .«high_run_ticks» ≡ 0 → Ended c → Good (idleTick (idled c) false)
+unfolding idleTick silent fell idled In pick
+first-low c low e = record {
+  any = e .any;
+  state = record { receiving = e .receiving; released = refl; busy = refl; debounce = omega arith; fell = λ h. low; counted = omega arith };
+}
+
+-- ---- a tick, of a core that the level was not heard by yet
+-- the runs alone
+heard-any : (c : Core) (high : Bool) → AnyOf c → AnyOf (heardOf c high)
+unfolding heardOf pick
+heard-any c true a = record { one-run = λ h. refl; collisions = a .collisions; either = a .either }
+heard-any c false a = record { one-run = λ h. absurd (not-below h); collisions = a .collisions; either = a .either }
+  where
+    not-below : 0 < 0 → ⊥
+    not-below h = omega (arith, h)
+
+up : (a b : ℕ) → a ≤ b → min (a + 1) 65535 ≤ min (b + 1) 65535
+up a b h = omega (arith, h)
+
+heard-high : (c : Core) (high : Bool) → heardOf c high .runs .«high_run_ticks» ≡ pick high (min (c .runs .«high_run_ticks» + 1) 65535) 0
+unfolding heardOf pick
+heard-high c true = refl
+heard-high c false = refl
+
+heard-low : (c : Core) (high : Bool) → high ≡ false → heardOf c high .runs .«high_run_ticks» ≡ 0
+heard-low c high e = heard-high c high ∙ on-false e (min (c .runs .«high_run_ticks» + 1) 65535) 0
+
+-- ---- one sample
+-- What a sample keeps of the places, and what it does to the run of highs. `idle` and `idle′` are that run before and after it.
+record Sampled (high : Bool) (idle : ℕ) (r′ : Rx) : Type 0 where
+  run : r′ .«rx_idle» ≡ pick high (min (idle + 1) 255) 0
+  bits : r′ .«rx_bit_cnt» ≤ 7
+  place : r′ .«rx_pos» ≤ 63
+  enough : r′ .«rx_pos» < 63 → r′ .«rx_idle» + 2 ≤ r′ .«rx_pos» * 8 + r′ .«rx_bit_cnt»
+
+-- the run of highs grows by one at most
+run-up : (high : Bool) (n : ℕ) → pick high (min (n + 1) 255) 0 ≤ n + 1
+unfolding pick
+run-up true n = omega arith
+run-up false n = omega arith
+
+filling : (k at idle run : ℕ) → k ≡ 7 → run ≤ idle + 1 → (at < 63 → idle + 2 ≤ at * 8 + k) → min (at + 1) 63 < 63 → run + 2 ≤ min (at + 1) 63 * 8 + 0
+filling k at idle run e up h below = omega (arith, e, up, h (omega (arith, below)), below)
+
+shifting : (k at idle run : ℕ) → (k ≡ 7 → ⊥) → k ≤ 7 → run ≤ idle + 1 → (at < 63 → idle + 2 ≤ at * 8 + k) → at < 63 → run + 2 ≤ at * 8 + (k + 1) % 256
+shifting k at idle run ne le up h below = omega (arith, ne, le, up, h below)
+
+sampled-keeps : (r : Rx) (high : Bool) → r .«rx_bit_cnt» ≤ 7 → r .«rx_pos» ≤ 63 → (r .«rx_pos» < 63 → r .«rx_idle» + 2 ≤ r .«rx_pos» * 8 + r .«rx_bit_cnt»)
+    → Sampled high (r .«rx_idle») (sampled r high)
+unfolding sampled highRun
+sampled-keeps r high le place enough =
+    cases (Sampled high (r .«rx_idle»)) (eqb (r .«rx_bit_cnt») 7)
+    (λ e. record {
+      run = refl;
+      bits = omega arith;
+      place = omega arith;
+      enough = filling _ _ _ _ (eqb-true (r .«rx_bit_cnt») 7 e) (run-up high (r .«rx_idle»)) enough;
+    })
+    (λ e. record {
+      run = refl;
+      bits = small _ (eqb-false (r .«rx_bit_cnt») 7 e) le;
+      place = place;
+      enough = shifting _ _ _ _ (eqb-false (r .«rx_bit_cnt») 7 e) le (run-up high (r .«rx_idle»)) enough;
+    })
+  where
+    small : (k : ℕ) → (k ≡ 7 → ⊥) → k ≤ 7 → (k + 1) % 256 ≤ 7
+    small k ne le = omega (arith, ne, le)
+
+-- both runs of highs are the same one, below sixteen
+runs-agree : (high : Bool) (idle run : ℕ) → idle ≡ run → idle ≤ 15 → pick high (min (idle + 1) 255) 0 ≡ pick high (min (run + 1) 65535) 0
+unfolding pick
+runs-agree true idle run e le = omega (arith, e, le)
+runs-agree false idle run e le = refl
+
+-- ---- only a low tick yields
+abbrev isYield : Step → Bool
+isYield Arm = false
+isYield Yield = true
+isYield End = false
+isYield Clash = false
+isYield Hold = false
+isYield (Drive out) = false
+
+not-yield : (x : Step) → isYield x ≡ false → x ≡ Yield → ⊥
+not-yield x other e = false≢true (sym other ∙ ap isYield e)
+
+yields-low : (tx : Tx) (policy : CollisionPolicy) (hb : TxHb) (high : Bool) → txStep tx policy hb high ≡ Yield → high ≡ false
+unfolding txStep
+yields-low tx policy hb high =
+    let P : Step → Type 0 = λ (x : Step). x ≡ Yield → high ≡ false in
+    cases P (not (eqb (tx .«tx_armed») 0))
+    (λ _. cases P (not high && not (tx .«tx_answer»)) (λ low _. both-low high (tx .«tx_answer») low) (λ _ e. absurd (not-yield Arm refl e)))
+    (λ _. cases P (leb (hb .«tx_hb_len») (tx .«tx_hb_cnt»)) (λ _ e. absurd (not-yield End refl e))
+    (λ _. cases P (clashOf tx policy (hb .«tx_hb_len») high) (λ _ e. absurd (not-yield Clash refl e))
+    (λ _. cases P (not (eqb (tx .«tx_sp_cnt») 0)) (λ _ e. absurd (not-yield Hold refl e))
+    (λ _. cases P (leb 56 (tx .«tx_hb_cnt»)) (λ _ e. absurd (not-yield End refl e)) (λ _ e. absurd (not-yield (Drive _) refl e))))))
+  where
+    both-low : (high answer : Bool) → (not high && not answer) ≡ true → high ≡ false
+    both-low true answer e = absurd (false≢true e)
+    both-low false answer e = refl
+
+-- ---- what a tick leaves of a core that has heard the level
+abbrev pub rxCore : Core → Bool → Core
+rxCore c high = pick (goesOn (sampled (c .rx) high)) (withRx c (sampled (c .rx) high)) (finished c (sampled (c .rx) high))
+
+unfoldable pub coreAfter : BusState → Core → TxHb → Bool → Core
+coreAfter bus.Idle c hb high = idleTick c high
+coreAfter bus.Rx c hb high = rxCore c high
+coreAfter bus.Tx c hb high = txTick c hb high
+coreAfter bus.CollisionTx c hb high = collisionTick c high
+
+module _ (c : Core) (a : AnyOf c) where
+  -- ---- Idle
+  module _ (i : InIdle (c .runs) (c .bus) (c .told .«rx_state»)) (e : c .bus .«bus_state» ≡ bus.Idle) where
+    idle-good : (high : Bool) → Good (idleTick (heardOf c high) high)
+    unfolding idleTick silent fell heardOf pick In entered sampled highRun isReceiving
+    idle-good true = record {
+      any = heard-any c true a;
+      state = rw e (record { receiving = i .receiving; released = i .released; busy = i .busy; debounce = omega arith; fell = λ h. absurd (not-below h); counted = up _ _ (i .counted) });
+    }
+      where
+        not-below : 0 < 0 → ⊥
+        not-below h = omega (arith, h)
+    idle-good false =
+        let lows : ℕ = min (c .bus .«rx_debounce» + 1) 255 in
+        cases Good (ltb lows 2)
+        (λ few. record {
+          any = heard-any c false a;
+          state = rw e (record { receiving = i .receiving; released = i .released; busy = i .busy; debounce = le-one (ltb-true lows 2 few); fell = λ h. refl; counted = omega arith });
+        })
+        (λ two. record {
+          any = heard-any c false a;
+          state = record { receiving = refl; released = i .released; busy = i .busy; debouncing = from-two (ltb-false lows 2 two); idle = refl; short = omega arith; bits = omega arith; place = omega arith; enough = λ h. omega arith };
+        })
+      where
+        le-one : {n : ℕ} → n < 2 → n ≤ 1
+        le-one h = omega (arith, h)
+
+        from-two : {n : ℕ} → 2 ≤ n → 0 < n
+        from-two h = omega (arith, h)
+
+  -- ---- Rx
+  module _ (i : InRx (c .runs) (c .bus) (c .rx) (c .told .«rx_state»)) (e : c .bus .«bus_state» ≡ bus.Rx) where
+    pub rx-good : (high : Bool) → Good (rxCore (heardOf c high) high)
+    unfolding heardOf finished In isReceiving
+    rx-good high =
+        let r : Rx = sampled (c .rx) high in
+        let k : Sampled high (c .rx .«rx_idle») r = sampled-keeps (c .rx) high (i .bits) (i .place) (i .enough) in
+        cases Good (goesOn r)
+        (λ few. record {
+          any = heard-any c high a;
+          state = rw e (record {
+            receiving = i .receiving;
+            released = i .released;
+            busy = i .busy;
+            debouncing = i .debouncing;
+            idle = k .run ∙ runs-agree high _ _ (i .idle) (i .short) ∙ sym (heard-high c high);
+            short = below (ltb-true (r .«rx_idle») 16 few);
+            bits = k .bits;
+            place = k .place;
+            enough = k .enough;
+          });
+        })
+        (λ done. idled-good _ (record { any = heard-any c high a; receiving = refl }))
+      where
+        below : {n : ℕ} → n < 16 → n ≤ 15
+        below h = omega (arith, h)
+
+    -- a capture that is whole counts 3 to 64 bytes
+    pub whole : (high : Bool) → goesOn (sampled (c .rx) high) ≡ false → (3 ≤ min (sampled (c .rx) high .«rx_pos» + 1) 65535) × (min (sampled (c .rx) high .«rx_pos» + 1) 65535 ≤ 64)
+    whole high done =
+        let r : Rx = sampled (c .rx) high in
+        let k : Sampled high (c .rx .«rx_idle») r = sampled-keeps (c .rx) high (i .bits) (i .place) (i .enough) in
+        counts (r .«rx_pos») (r .«rx_idle») (r .«rx_bit_cnt») (ltb-false (r .«rx_idle») 16 done) (k .bits) (k .place) (k .enough) (decLt (r .«rx_pos») 63)
+      where
+        counts : (at idle bits : ℕ) → 16 ≤ idle → bits ≤ 7 → at ≤ 63 → (at < 63 → idle + 2 ≤ at * 8 + bits) → Dec (at < 63) → (3 ≤ min (at + 1) 65535) × (min (at + 1) 65535 ≤ 64)
+        counts at idle bits long few place enough (yes below) = (omega (arith, long, few, enough below), omega (arith, place))
+        counts at idle bits long few place enough (no last) = (omega (arith, place, last), omega (arith, place))
+
+  -- ---- Tx
+  module _ (i : InTx (c .bus .«tx_busy») (c .told)) (e : c .bus .«bus_state» ≡ bus.Tx) (hb : TxHb) where
+    no-collision : 0 < c .told .«tx_collision» → ⊥
+    no-collision h = omega (arith, h, i .clear)
+
+    step-good : (high : Bool) (x : Step) → (x ≡ Yield → high ≡ false) → Good (stepped x (heardOf c high))
+    unfolding stepped armed yielded clashed held driven heardOf In
+    step-good high Arm low = record { any = heard-any c high a; state = rw e i }
+    step-good high Yield low =
+        first-low _ (heard-low c high (low refl))
+        (record { any = record { one-run = heard-any c high a .one-run; collisions = a .collisions; either = λ h. absurd (no-collision h) }; receiving = i .receiving })
+    step-good high End low = idled-good _ (record { any = heard-any c high a; receiving = i .receiving })
+    step-good high Clash low = record {
+      any = record { one-run = heard-any c high a .one-run; collisions = rw (i .clear) (omega arith); either = λ h. i .kept };
+      state = record { receiving = i .receiving; busy = i .busy; unmarked = refl; kept = i .kept };
+    }
+    step-good high Hold low = record { any = heard-any c high a; state = rw e i }
+    step-good high (Drive out) low = record { any = heard-any c high a; state = rw e i }
+
+    tx-good : (high : Bool) → Good (txTick (heardOf c high) hb high)
+    unfolding txTick
+    tx-good high = step-good high (txStep (heardOf c high .tx) (heardOf c high .«collision_policy») hb high) (yields-low _ _ hb high)
+
+  -- ---- Collision
+  module _ (i : InBreak (c .bus .«tx_busy») (c .told)) (e : c .bus .«bus_state» ≡ bus.CollisionTx) where
+    break-good : (high : Bool) → Good (collisionTick (heardOf c high) high)
+    unfolding collisionTick broke heardOf In
+    break-good high =
+        cases Good (leb 14 ((c .tx .«tx_sp_cnt» + 1) % 256))
+        (λ over. cases Good high
+        (λ _. idled-good _ (record { any = heard-any c high a; receiving = i .receiving }))
+        (λ low. first-low _ (heard-low c high low) (record { any = heard-any c high a; receiving = i .receiving })))
+        (λ _. record { any = heard-any c high a; state = rw e i })
+
+-- ---- a start
+pub loaded-good : (c : Core) (answer : Bool) → AnyOf c → Good (loaded c answer)
+unfolding loaded In isReceiving
+loaded-good c answer a = record {
+  any = record { one-run = a .one-run; collisions = omega arith; either = λ h. refl };
+  state = record { receiving = refl; busy = refl; unmarked = refl; clear = refl; kept = refl };
+}
+
+-- ---- any tick
+pub act-good : (b : BusState) (c : Core) (hb : TxHb) (high : Bool) → c .bus .«bus_state» ≡ b → Good c → Good (coreAfter b (heardOf c high) hb high)
+unfolding coreAfter In
+act-good bus.Idle c hb high e g = idle-good c (g .any) (subst (λ (x : BusState). In x (c .runs) (c .bus) (c .rx) (c .told)) e (g .state)) e high
+act-good bus.Rx c hb high e g = rx-good c (g .any) (subst (λ (x : BusState). In x (c .runs) (c .bus) (c .rx) (c .told)) e (g .state)) e high
+act-good bus.Tx c hb high e g = tx-good c (g .any) (subst (λ (x : BusState). In x (c .runs) (c .bus) (c .rx) (c .told)) e (g .state)) e hb high
+act-good bus.CollisionTx c hb high e g = break-good c (g .any) (subst (λ (x : BusState). In x (c .runs) (c .bus) (c .rx) (c .told)) e (g .state)) e high
+
+-- ---- what is told
+-- the marks that calls clear, and the mark of a capture
+abbrev pub telling : Core → ℕ → Bool → Bool → Core
+telling c collision idle yielded = withTxYielded (withTxIdleAfterBreak (withTxCollision c collision) idle) yielded
+
+-- marks that are cleared or stay
+stays-false : (x y : Bool) → (x ≡ true → y ≡ true) → y ≡ false → x ≡ false
+stays-false true y h e = absurd (false≢true (sym e ∙ h refl))
+stays-false false y h e = refl
+
+module _ (c : Core) (g : Good c) where
+  module _ (k : ℕ) (m y : Bool) (fewer : k ≤ c .told .«tx_collision») (mark : m ≡ true → c .told .«tx_idle_after_break» ≡ true) (yield : y ≡ true → c .told .«tx_yielded» ≡ true) where
+    none : c .told .«tx_collision» ≡ 0 → k ≡ 0
+    none e = omega (arith, e, fewer)
+
+    told-in : (b : BusState) → In b (c .runs) (c .bus) (c .rx) (c .told) → In b (c .runs) (c .bus) (c .rx) (telling c k m y .told)
+    unfolding In
+    told-in bus.Idle i = i
+    told-in bus.Rx i = i
+    told-in bus.Tx i = record { receiving = i .receiving; busy = i .busy; unmarked = stays-false m _ mark (i .unmarked); clear = none (i .clear); kept = stays-false y _ yield (i .kept) }
+    told-in bus.CollisionTx i = record { receiving = i .receiving; busy = i .busy; unmarked = stays-false m _ mark (i .unmarked); kept = stays-false y _ yield (i .kept) }
+
+    pub telling-good : Good (telling c k m y)
+    telling-good = record {
+      any = record { one-run = g .any .one-run; collisions = omega (arith, fewer, g .any .collisions); either = λ h. stays-false y _ yield (g .any .either (omega (arith, h, fewer))) };
+      state = told-in (c .bus .«bus_state») (g .state);
+    }
+
+  module _ (done : c .told .«rx_state» ≡ Completed) where
+    taken-in : (b : BusState) → In b (c .runs) (c .bus) (c .rx) (c .told) → In b (c .runs) (c .bus) (c .rx) (withRxState c Empty .told)
+    unfolding In isReceiving
+    taken-in bus.Idle i = record { receiving = refl; released = i .released; busy = i .busy; debounce = i .debounce; fell = i .fell; counted = i .counted }
+    taken-in bus.Rx i = absurd (false≢true (sym (ap isReceiving done) ∙ i .receiving))
+    taken-in bus.Tx i = record { receiving = refl; busy = i .busy; unmarked = i .unmarked; clear = i .clear; kept = i .kept }
+    taken-in bus.CollisionTx i = record { receiving = refl; busy = i .busy; unmarked = i .unmarked; kept = i .kept }
+
+    pub taken-good : Good (withRxState c Empty)
+    taken-good = record { any = g .any; state = taken-in (c .bus .«bus_state») (g .state) }

@@ -1,0 +1,338 @@
+-- The ticks of a half-bit (specs/OverTicks, Tx). Assumes nothing.
+use Prim.Native.Nat.{ℕ, suc, _+_, _/_, _%_, _≤_, _<_}
+use native.Mathlib.Omega.{arith}
+use native.Mathlib.Decide.{decLt}
+use native.Mathlib.Nat.{not-suc-le-zero, zero-add}
+use mathlib.Core.Bool.{Bool, true, false, false≢true, not, _&&_}
+use mathlib.Core.List.{List}
+use mathlib.Core.Logic.{_⊎_, inl, inr, ⊎-elim}
+use mathlib.Core.Path.{_≡_, refl, sym, _∙_, ap, subst}
+use lib.Dec.{eqb, leb}
+use borrow.Author.Tests.{eqb-true, eq-eqb, ne-eqb, leb-true, leb-false, le-leb, lt-leb}
+use Rattle.laws.specs.Bit.{bit}
+use Rattle.laws.specs.Pick.{pick}
+use Rattle.laws.proofs.Picked.{on-true, on-false, cases}
+use Rattle.laws.proofs.Joined.{is}
+use Rattle.machine.specs.declared.BusState.{BusState}
+use Rattle.machine.specs.declared.BusState.the-variants as bus
+use Rattle.machine.specs.declared.CollisionPolicy.{CollisionPolicy}
+use Rattle.machine.specs.declared.Tx.{Tx}
+use Rattle.machine.specs.declared.TxHb.{TxHb}
+use Rattle.machine.specs.declared.Core.{Core}
+use Rattle.machine.specs.Runs.{heardOf}
+use Rattle.machine.specs.BecomingIdle.{idled}
+use Rattle.machine.specs.Idle.{idleTick, silent, fell}
+use Rattle.machine.specs.Sending.{Step, Arm, Yield, End, Clash, Hold, Drive, clashOf, releasesAt, txStep, armed, yielded, clashed, held, driven, stepped, txTick}
+use Rattle.fsm.specs.declared.DaliBitbangPhy.{DaliBitbangPhy}
+use Rattle.fsm.specs.declared.TxPollResult.the-variants.{Ok, Yielded}
+use Rattle.fsm.specs.Station.{withCore}
+use Rattle.fsm.specs.Ticking.{actOf, tickOf}
+use Rattle.machine.specs.States.{hears, isTx}
+use Rattle.fsm.specs.Polling.{polled}
+use Rattle.station_theorems.specs.Calls.{Call, tick, after, afterAll, called}
+use Rattle.station_theorems.specs.Ticks.{drives, IsIdle, IsSending, IsBreaking, levelsIn, ticksIn}
+use Rattle.station_theorems.specs.OverTicks.{begun, toSend, Begins, HalfBitsDriven, IsClash, HalfBitTicks, NoLow, LastHalfBit, SentWhole}
+use Rattle.station_theorems.proofs.Cores.{In}
+use Rattle.station_theorems.proofs.Stations.{reached-whole}
+use Rattle.station_theorems.proofs.Between.{Same}
+use Rattle.station_theorems.proofs.Walking.{reached-all, all-any, walk}
+use Rattle.station_theorems.proofs.Clashes.{Told, clash-told, told-clash, is-high}
+use Rattle.station_theorems.proofs.Breaking.{tick-on}
+use Rattle.station_theorems.proofs.ByState.{tick-tx, tick-by, sending-not-breaking, idle-not-breaking, idle-not-sending}
+
+-- ---- the tick that begins a half-bit
+isDrive : Step → Bool
+isDrive Arm = false
+isDrive Yield = false
+isDrive End = false
+isDrive Clash = false
+isDrive Hold = false
+isDrive (Drive out) = true
+
+no-more : (n : ℕ) → n ≡ n + 1 → ⊥
+no-more n e = omega (arith, e)
+
+counts-drive : (x : Step) (c : Core) → stepped x c .tx .«tx_hb_cnt» ≡ c .tx .«tx_hb_cnt» + 1 → isDrive x ≡ true
+unfolding stepped armed yielded clashed held driven idled idleTick silent fell pick isDrive
+counts-drive Arm c e = absurd (no-more _ e)
+counts-drive Yield c e = absurd (no-more _ e)
+counts-drive End c e = absurd (no-more _ e)
+counts-drive Clash c e = absurd (no-more _ e)
+counts-drive Hold c e = absurd (no-more _ e)
+counts-drive (Drive out) c e = refl
+
+record Drew (tx : Tx) (hb : TxHb) (x : Step) : Type 0 where
+  unarmed : tx .«tx_armed» ≡ 0
+  more : tx .«tx_hb_cnt» < hb .«tx_hb_len»
+  out : x ≡ Drive (releasesAt hb (tx .«tx_hb_cnt»))
+
+drew : (tx : Tx) (p : CollisionPolicy) (hb : TxHb) (high : Bool) → isDrive (txStep tx p hb high) ≡ true → Drew tx hb (txStep tx p hb high)
+unfolding txStep isDrive
+drew tx p hb high =
+    let P : Step → Type 0 = λ (x : Step). isDrive x ≡ true → Drew tx hb x in
+    cases P (not (eqb (tx .«tx_armed») 0))
+    (λ _. cases P (not high && not (tx .«tx_answer»)) (λ _ e. absurd (false≢true e)) (λ _ e. absurd (false≢true e)))
+    (λ un. cases P (leb (hb .«tx_hb_len») (tx .«tx_hb_cnt»)) (λ _ e. absurd (false≢true e))
+    (λ more. cases P (clashOf tx p (hb .«tx_hb_len») high) (λ _ e. absurd (false≢true e))
+    (λ _. cases P (not (eqb (tx .«tx_sp_cnt») 0)) (λ _ e. absurd (false≢true e))
+    (λ _. cases P (leb 56 (tx .«tx_hb_cnt»)) (λ _ e. absurd (false≢true e))
+    (λ _ _. record { unarmed = eqb-true _ _ (is _ un); more = leb-false _ _ more; out = refl })))))
+
+module _ (s : DaliBitbangPhy) (level : Bool) (b : Begins s level) where
+  step : Step
+  step = txStep (s .core .tx) (s .core .«collision_policy») (s .«tx_hb») level
+
+  ticked : tickOf s level ≡ withCore s (stepped step (heardOf (s .core) level))
+  unfolding step txTick heardOf
+  ticked = tick-tx s level (b .sending)
+
+  is-drive : Drew (s .core .tx) (s .«tx_hb») step
+  unfolding step heardOf
+  is-drive =
+      drew (s .core .tx) (s .core .«collision_policy») (s .«tx_hb») level
+      (counts-drive step (heardOf (s .core) level) (sym (ap (λ (t : DaliBitbangPhy). begun t) ticked) ∙ b .one-more))
+
+  pub begin-tick : tickOf s level ≡ withCore s (driven (heardOf (s .core) level) (releasesAt (s .«tx_hb») (begun s)))
+  unfolding stepped
+  begin-tick = ticked ∙ ap (λ (x : Step). withCore s (stepped x (heardOf (s .core) level))) (is-drive .out)
+
+pub half-bits-driven : HalfBitsDriven
+unfolding driven heardOf
+half-bits-driven s level b = record {
+  sending = ap (λ (t : DaliBitbangPhy). t .core .bus .«bus_state») (begin-tick s level b) ∙ b .sending;
+  driven = ap (λ (t : DaliBitbangPhy). drives t) (begin-tick s level b);
+}
+
+-- ---- n ticks after it
+pub record InHalf (first : DaliBitbangPhy) (n : ℕ) (t : DaliBitbangPhy) : Type 0 where
+  pub sending : IsSending t
+  pub unarmed : t .core .tx .«tx_armed» ≡ 0
+  pub left : t .core .tx .«tx_sp_cnt» + n ≡ 3
+  pub watch : t .core .tx .«tx_high» ≡ bit (drives first)
+  pub level : drives t ≡ drives first
+  pub count : begun t ≡ begun first
+  pub store : t .«tx_hb» ≡ first .«tx_hb»
+
+half-begins : (s : DaliBitbangPhy) (level : Bool) → Begins s level → InHalf (tickOf s level) 0 (tickOf s level)
+unfolding driven heardOf
+half-begins s level b =
+    rw (begin-tick s level b) (record { sending = b .sending; unarmed = is-drive s level b .unarmed; left = refl; watch = refl; level = refl; count = refl; store = refl })
+
+-- the rule of a tick within a half-bit that isn't the last
+module _ (first : DaliBitbangPhy) (more : begun first < toSend first) (n : ℕ) (t : DaliBitbangPhy) (h : InHalf first n t) (b : Bool) where
+  rule : txStep (t .core .tx) (t .core .«collision_policy») (t .«tx_hb») b
+      ≡ pick (clashOf (t .core .tx) (t .core .«collision_policy») (toSend t) b) Clash
+      (pick (not (eqb (t .core .tx .«tx_sp_cnt») 0)) Hold (pick (leb 56 (begun t)) End (Drive (releasesAt (t .«tx_hb») (begun t)))))
+  unfolding txStep
+  rule =
+      let within : begun t < toSend t = rw (h .store) (omega (arith, h .count)) in
+      simp (on-false (ap not (eq-eqb _ _ (h .unarmed))), on-false (lt-leb _ _ within))
+
+  by : (x : Step) → txStep (t .core .tx) (t .core .«collision_policy») (t .«tx_hb») b ≡ x → tickOf t b ≡ withCore t (stepped x (heardOf (t .core) b))
+  by = tick-by t b (h .sending)
+
+  module _ (clash : clashOf (t .core .tx) (t .core .«collision_policy») (toSend t) b ≡ true) where
+    clash-tick : IsBreaking (tickOf t b) × (tickOf t b .core .tx .«tx_sp_cnt» ≡ 0)
+    unfolding stepped clashed
+    clash-tick = rw (by Clash (rule ∙ on-true clash _ _)) (refl, refl)
+
+  module _ (calm : clashOf (t .core .tx) (t .core .«collision_policy») (toSend t) b ≡ false) where
+    hold-tick : n < 3 → InHalf first (suc n) (tickOf t b)
+    unfolding stepped held heardOf
+    hold-tick few =
+        let some : t .core .tx .«tx_sp_cnt» ≡ 0 → ⊥ = λ e. omega (arith, h .left, e) in
+        rw (by Hold (rule ∙ on-false calm _ _ ∙ on-true (ap not (ne-eqb _ _ some)) _ _))
+        (record { sending = h .sending; unarmed = h .unarmed; left = omega (arith, h .left); watch = h .watch; level = h .level; count = h .count; store = h .store })
+
+    drive-tick : n ≡ 3 → toSend first ≤ 54 → IsSending (tickOf t b) × (begun (tickOf t b) ≡ begun t + 1)
+    unfolding stepped driven heardOf
+    drive-tick last short =
+        let none : t .core .tx .«tx_sp_cnt» ≡ 0 = omega (arith, h .left) in
+        let at : begun t < 54 = omega (arith, h .count) in
+        rw (by (Drive (releasesAt (t .«tx_hb») (begun t))) (rule ∙ on-false calm _ _ ∙ on-false (ap not (eq-eqb _ _ none)) _ _ ∙ on-false (lt-leb 56 (begun t) (omega arith)) _ _))
+        (h .sending, let small : (begun t + 1) % 256 ≡ begun t + 1 = omega arith in small)
+
+  -- the first and the last two ticks of it: a clash is told by the number of the tick
+  clash-of : IsClash (n + 2) t b → clashOf (t .core .tx) (t .core .«collision_policy») (toSend t) b ≡ true
+  clash-of k =
+      told-clash (t .core .tx) (t .core .«collision_policy») (toSend t) b
+      (record {
+        fell = k .fell;
+        released = λ e. let one : t .core .tx .«tx_high» ≡ 1 = h .watch ∙ ap bit (sym (h .level) ∙ k .released) in let no : ⊥ = omega arith in no;
+        watches = k .watched;
+        left = omega (arith, h .left, k .fourth);
+        few = omega (arith, h .left, k .third);
+      })
+
+  of-clash : clashOf (t .core .tx) (t .core .«collision_policy») (toSend t) b ≡ true → IsClash (n + 2) t b
+  of-clash e =
+      let k : Told (t .core .tx) (t .core .«collision_policy») (toSend t) b = clash-told _ _ _ _ e in
+      record {
+        released = h .level ∙ is-high (drives first) _ (h .watch) (k .released);
+        watched = k .watches;
+        third = omega (arith, h .left, k .few);
+        fourth = omega (arith, h .left, k .left);
+        fell = k .fell;
+      }
+
+  module _ (few : n ≤ 3) (short : toSend first ≤ 54) where
+    on-calm : clashOf (t .core .tx) (t .core .«collision_policy») (toSend t) b ≡ false → IsSending (tickOf t b)
+    on-calm calm = go (decLt n 3)
+      where
+        go : Dec (n < 3) → IsSending (tickOf t b)
+        go (yes early) = hold-tick calm early .sending
+        go (no late) = drive-tick calm (omega (arith, late)) short .0
+
+    no-clash : (IsClash (n + 2) t b → ⊥) → IsSending (tickOf t b)
+    no-clash none = go (clashOf (t .core .tx) (t .core .«collision_policy») (toSend t) b) refl
+      where
+        go : (c : Bool) → clashOf (t .core .tx) (t .core .«collision_policy») (toSend t) b ≡ c → IsSending (tickOf t b)
+        go true e = absurd (none (of-clash e))
+        go false e = on-calm e
+
+    -- no tick is left to be watched when the next half-bit begins
+    next-begins : n ≡ 3 → Begins t b
+    next-begins last = go (clashOf (t .core .tx) (t .core .«collision_policy») (toSend t) b) refl
+      where
+        go : (c : Bool) → clashOf (t .core .tx) (t .core .«collision_policy») (toSend t) b ≡ c → Begins t b
+        go true e = absurd (let k = of-clash e in let no : ⊥ = omega (arith, k .fourth) in no)
+        go false e = record { sending = h .sending; one-more = drive-tick e last short .1 }
+
+-- ---- it goes on, or a clash ended it
+record Broken (n : ℕ) (t : DaliBitbangPhy) : Type 0 where
+  breaking : IsBreaking t
+  passed : t .core .tx .«tx_sp_cnt» ≤ n
+
+broken-on : (n : ℕ) (t : DaliBitbangPhy) (b : Bool) → n < 3 → Broken n t → Broken (suc n) (tickOf t b)
+unfolding heardOf
+broken-on n t b few h =
+    let p : t .core .tx .«tx_sp_cnt» ≤ n = h .passed in
+    rw (tick-on _ t (h .breaking) refl b (omega arith)) (record { breaking = h .breaking; passed = omega arith })
+
+deaf-half : (first : DaliBitbangPhy) (n : ℕ) (t : DaliBitbangPhy) → InHalf first n t → hears (t .core .bus .«bus_state») ≡ false
+unfolding hears
+deaf-half first n t h = ap hears (h .sending)
+
+kept-half : (first : DaliBitbangPhy) (n : ℕ) (t u : DaliBitbangPhy) → Same t u → InHalf first n t → InHalf first n u
+kept-half first n t u same h =
+    let bus : u .core .bus ≡ t .core .bus = same .bus in
+    let tx : u .core .tx ≡ t .core .tx = same .tx in
+    let hb : u .«tx_hb» ≡ t .«tx_hb» = same .halfbits in
+    record {
+      sending = rw bus (h .sending);
+      unarmed = rw tx (h .unarmed);
+      left = rw tx (h .left);
+      watch = rw tx (h .watch);
+      level = rw bus (h .level);
+      count = rw tx (h .count);
+      store = rw hb (h .store);
+    }
+
+module _ (first : DaliBitbangPhy) (more : begun first < toSend first) where
+  abbrev Goes : ℕ → DaliBitbangPhy → Type 0
+  Goes n t = InHalf first n t ⊎ Broken n t
+
+  deaf : (n : ℕ) (t : DaliBitbangPhy) → Goes n t → hears (t .core .bus .«bus_state») ≡ false
+  unfolding hears
+  deaf n t (inl h) = deaf-half first n t h
+  deaf n t (inr h) = ap hears (h .breaking)
+
+  kept : (n : ℕ) (t u : DaliBitbangPhy) → Same t u → Goes n t → Goes n u
+  kept n t u same (inl h) = inl (kept-half first n t u same h)
+  kept n t u same (inr h) =
+      let bus : u .core .bus ≡ t .core .bus = same .bus in
+      let tx : u .core .tx ≡ t .core .tx = same .tx in
+      inr (record { breaking = rw bus (h .breaking); passed = rw tx (h .passed) })
+
+  ticks : (n : ℕ) (t : DaliBitbangPhy) (b : Bool) → n < 3 → Goes n t → Goes (suc n) (tickOf t b)
+  ticks n t b few (inl h) = go (clashOf (t .core .tx) (t .core .«collision_policy») (toSend t) b) refl
+    where
+      go : (c : Bool) → clashOf (t .core .tx) (t .core .«collision_policy») (toSend t) b ≡ c → Goes (suc n) (tickOf t b)
+      go true e = let k = clash-tick first more n t h b e in let z : tickOf t b .core .tx .«tx_sp_cnt» ≡ 0 = k .1 in inr (record { breaking = k .0; passed = omega arith })
+      go false e = inl (hold-tick first more n t h b e few)
+  ticks n t b few (inr h) = inr (broken-on n t b few h)
+
+  goes : (calls : List Call) (t : DaliBitbangPhy) → InHalf first 0 t → ticksIn calls ≤ 3 → IsSending (afterAll calls t) → InHalf first (ticksIn calls) (afterAll calls t)
+  goes calls t h few sending =
+      let g : Goes (0 + ticksIn calls) (afterAll calls t)
+      = walk Goes (λ _. Unit {0}) 3 deaf kept (λ n u b _ less k. ticks n u b less k)
+      calls 0 t (all-any (levelsIn calls)) (inl h) (omega arith) in
+      ⊎-elim (λ k. k) (λ k. absurd (sending-not-breaking (sym sending ∙ k .breaking))) (rw (zero-add (ticksIn calls)) at g)
+
+pub half-bit-ticks : HalfBitTicks
+unfolding after
+half-bit-ticks s r level b more calls few sending next =
+    let first : DaliBitbangPhy = tickOf s level in
+    let t : DaliBitbangPhy = afterAll calls first in
+    let same : first .«tx_hb» ≡ s .«tx_hb» = ap (λ (u : DaliBitbangPhy). u .«tx_hb») (begin-tick s level b) in
+    let within : begun first < toSend first = omega (arith, ap (λ (hb : TxHb). hb .«tx_hb_len») same) in
+    let short : toSend first ≤ 54 = reached-whole first (called (tick level) r) .loads in
+    let h : InHalf first (ticksIn calls) t = goes first within calls first (half-begins s level b) few sending in
+    record {
+      held = (h .level, h .count);
+      store = h .store;
+      clash = λ k. clash-tick first within (ticksIn calls) t h next (clash-of first within (ticksIn calls) t h next k) .0;
+      no-clash = no-clash first within (ticksIn calls) t h next few short;
+      over = λ fifth. next-begins first within (ticksIn calls) t h next few short (omega arith);
+    }
+
+-- ---- the last half-bit
+-- nothing but calls between follows
+stays : (first : DaliBitbangPhy) (calls : List Call) (t : DaliBitbangPhy) → InHalf first 0 t → ticksIn calls ≡ 0 → InHalf first 0 (afterAll calls t)
+stays first calls t h none =
+    let g : InHalf first (0 + ticksIn calls) (afterAll calls t)
+    = walk (InHalf first) (λ _. Unit {0}) 0 (deaf-half first) (kept-half first)
+    (λ n u b _ less k. absurd (not-suc-le-zero less))
+    calls 0 t (all-any (levelsIn calls)) h (omega arith) in
+    rw none at g
+
+end-tick : (first t : DaliBitbangPhy) → InHalf first 0 t → begun first ≡ toSend first → (b : Bool) → tickOf t b ≡ withCore t (idled (heardOf (t .core) b))
+unfolding txTick txStep stepped heardOf
+end-tick first t h all b =
+    let done : toSend t ≤ begun t = rw (h .store) (omega (arith, h .count)) in
+    tick-tx t b (h .sending) ∙ simp (on-false (ap not (eq-eqb _ _ (h .unarmed))), on-true (le-leb _ _ done))
+
+idle-now : (t : DaliBitbangPhy) (b : Bool) → NoLow (withCore t (idled (heardOf (t .core) b)))
+unfolding idled heardOf tickOf actOf idleTick silent fell pick
+idle-now t b = record { idle = refl; alone = refl }
+
+idle-told : (t : DaliBitbangPhy) (b : Bool) → t .core .told .«tx_yielded» ≡ false → t .core .told .«tx_collision» ≡ 0
+    → polled (withCore t (idled (heardOf (t .core) b))) .answer ≡ Ok
+unfolding idled heardOf polled isTx pick
+idle-told t b calm none = rw (calm, none)
+
+pub last-half-bit : LastHalfBit
+unfolding after In
+last-half-bit s r level b all calls none next =
+    let first : DaliBitbangPhy = tickOf s level in
+    let t : DaliBitbangPhy = afterAll calls first in
+    let same : first .«tx_hb» ≡ s .«tx_hb» = ap (λ (u : DaliBitbangPhy). u .«tx_hb») (begin-tick s level b) in
+    let h : InHalf first 0 t = stays first calls first (half-begins s level b) none in
+    let i : In bus.Tx (t .core .runs) (t .core .bus) (t .core .rx) (t .core .told)
+    = subst (λ (x : BusState). In x (t .core .runs) (t .core .bus) (t .core .rx) (t .core .told)) (h .sending)
+    (reached-whole t (reached-all calls first (called (tick level) r)) .core .state) in
+    rw (end-tick first t h (rw same all) next) (record { idle = idle-now t next; told = idle-told t next (i .kept) (i .clear) })
+
+-- ---- going Idle
+module _ (s : DaliBitbangPhy) (short : toSend s ≤ 54) (sending : IsSending s) (level : Bool) where
+  Ends : Step → Type 0
+  Ends x = IsIdle (withCore s (stepped x (heardOf (s .core) level))) → (toSend s ≤ begun s) ⊎ (polled (withCore s (stepped x (heardOf (s .core) level))) .answer ≡ Yielded)
+
+  whole : Ends (txStep (s .core .tx) (s .core .«collision_policy») (s .«tx_hb») level)
+  unfolding Ends txStep stepped armed yielded clashed held driven idled idleTick silent fell heardOf polled pick
+  whole =
+      cases Ends (not (eqb (s .core .tx .«tx_armed») 0))
+      (λ _. cases Ends (not level && not (s .core .tx .«tx_answer»)) (λ _ _. inr refl) (λ _ e. absurd (idle-not-sending (sym e ∙ sending))))
+      (λ _. cases Ends (leb (toSend s) (begun s)) (λ all _. inl (leb-true _ _ all))
+      (λ more. cases Ends (clashOf (s .core .tx) (s .core .«collision_policy») (toSend s) level) (λ _ e. absurd (idle-not-breaking (sym e)))
+      (λ _. cases Ends (not (eqb (s .core .tx .«tx_sp_cnt») 0)) (λ _ e. absurd (idle-not-sending (sym e ∙ sending)))
+      (λ _. cases Ends (leb 56 (begun s)) (λ used _. absurd (room (leb-false _ _ more) (leb-true _ _ used))) (λ _ e. absurd (idle-not-sending (sym e ∙ sending)))))))
+    where
+      room : begun s < toSend s → 56 ≤ begun s → ⊥
+      room more used = omega (arith, short, more, used)
+
+pub sent-whole : SentWhole
+unfolding Ends
+sent-whole s r sending level idle =
+    let e = tick-by s level sending _ refl in
+    rw e (whole s (reached-whole s r .loads) sending level (rw e at idle))
