@@ -18,7 +18,7 @@ use Rattle.bench_answers.specs.declared.Counts.{Counts}
 -- ---- kind and data
 unfoldable pub kindText : SniffedFrame → List ℕ
 kindText (Backward8 byte) = word "B8"
-kindText (Forward16 bits) = word "F16"
+kindText (Forward16 value) = word "F16"
 kindText (Forward24 first second third) = word "F24"
 kindText (UnsupportedLength bits) = word "LEN"
 kindText DecodeFailed = word "FAIL"
@@ -26,7 +26,7 @@ kindText DecodeFailed = word "FAIL"
 -- a frame's bytes in hex, the first first; another length in decimal; a minus where nothing was read
 unfoldable pub dataText : SniffedFrame → List ℕ
 dataText (Backward8 byte) = hexesOf (byte ∷ [])
-dataText (Forward16 bits) = hexesOf (bits / 256 ∷ bits % 256 ∷ [])
+dataText (Forward16 value) = hexesOf (value / 256 ∷ value % 256 ∷ [])
 dataText (Forward24 first second third) = hexesOf (first ∷ second ∷ third ∷ [])
 dataText (UnsupportedLength bits) = decimalOf bits
 dataText DecodeFailed = word "-"

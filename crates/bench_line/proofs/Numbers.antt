@@ -9,7 +9,7 @@ use Rattle.fsm.specs.declared.Started.{Started}
 use Rattle.fsm.specs.declared.Polled.{Polled}
 use Rattle.fsm.specs.declared.TookIdle.{TookIdle}
 use Rattle.fsm.specs.declared.TookRx.{TookRx}
-use Rattle.fsm.specs.Refusals.{numberOf, startNumber}
+use Rattle.fsm.specs.Refusals.{startAnswerNumber, startNumber}
 use Rattle.fsm.specs.Starting.{lengthFits, startTx, startAnswer}
 use Rattle.machine.specs.States.{isIdle, hears}
 use Rattle.fsm.proofs.Numbers.{tx-told, answer-told}
@@ -44,7 +44,7 @@ module _ (l : BenchLine) (number : ℕ) where
   unfolding changedAt
   changed-number s = picked (λ (r : LineChanged). doneNumber (r .answer)) (isOn l number) _ _
 
-  started-number : (r : Started) → startNumberOf (startedAt l number r .answer) ≡ pick (isOn l number) (numberOf (r .answer)) 9
+  started-number : (r : Started) → startNumberOf (startedAt l number r .answer) ≡ pick (isOn l number) (startAnswerNumber (r .answer)) 9
   unfolding startNumberOf startedAt
   started-number r = picked (λ (r : LineStarted). startNumberOf (r .answer)) (isOn l number) _ _
 

@@ -3,7 +3,7 @@ use Prim.Native.Nat.{ℕ}
 use mathlib.Core.Bool.{Bool, false}
 use lib.Dec.{eqb, leb}
 use Rattle.laws.specs.Pick.{pick}
-use Rattle.fsm.specs.Refusals.{numberOf}
+use Rattle.fsm.specs.Refusals.{startAnswerNumber}
 use Rattle.bench_line.specs.declared.LineNew.{LineNew}
 use Rattle.bench_line.specs.declared.LineNew.the-variants as made
 use Rattle.bench_line.specs.declared.LineDone.{LineDone}
@@ -30,7 +30,7 @@ doneNumber done.NoStation = 9
 
 -- what the station refuses stays refused
 unfoldable pub startNumberOf : LineStart → ℕ
-startNumberOf (start.Told answer) = numberOf answer
+startNumberOf (start.Told answer) = startAnswerNumber answer
 startNumberOf start.NoStation = 9
 
 unfoldable pub pollNumber : LinePoll → ℕ

@@ -22,30 +22,30 @@ use Rattle.halfbits.specs.HalfBits.{pulls, storeOf, bufferOf}
 use Rattle.halfbits.specs.Encoding.{isBitCount, frameOf, answerOf, encodedOf}
 use Rattle.window.specs.declared.SampleWindow.{SampleWindow}
 use Rattle.window.specs.Window.{windowOf, tickAt, peekAt}
-use Rattle.window.specs.Phase.{bits, after, phaseOf, bitsFrom, weightAround, strideAround, strideOf, lengthOf, scoreOf, decodeOf}
+use Rattle.window.specs.Phase.{weighed, after, phaseOf, bitsFrom, weightAround, strideAround, strideOf, lengthOf, scoreOf, decodeOf}
 use Rattle.window.specs.Phase as phase
 use Rattle.search.specs.Search.{acceptedOf, firstOf, endedOf, scannedOf, keptOf, stepOf, firstDone, runOf}
 use Rattle.capture.specs.Samples as capture
 use Rattle.event.specs.Event.{eventOf}
 use Rattle.machine.specs.declared.RxState.the-variants.{Empty}
-use Rattle.machine.specs.Runs.{heardOf}
+use Rattle.machine.specs.Runs.{runsCounted}
 use Rattle.machine.specs.States.{isCompleted}
 use Rattle.machine.specs.BecomingIdle.{idled}
 use Rattle.machine.specs.Idle.{entered, idleTick, silent, fell}
 use Rattle.fsm.specs.Rx.{highRun, sampled, filled, finished, notified, wentOn, rxTick}
 use Rattle.fsm.specs.declared.DaliBitbangPhy.{DaliBitbangPhy}
 use Rattle.fsm.specs.Station.{newCore, newStation}
-use Rattle.fsm.specs.Ticking.{actOf, tickOf}
+use Rattle.fsm.specs.Ticking.{tickIn, tickOf}
 use Rattle.fsm.specs.Calls.{tookRx}
 use Rattle.rx_decode.specs.Reading.{sniffedOf, searchedIn, foundOr, ticksOf, lowsFirst, longestLow}
-use Rattle.station_theorems.specs.Ticks.{IsIdle, heard}
-use Rattle.bench_table.specs.Row.{Says, lengths-hold-nothing, captures-nothing, reads-at-phase-0}
+use Rattle.station_theorems.specs.Ticks.{IsIdle, afterLevels}
+use Rattle.bench_table.specs.Row.{SaysRow, lengths-hold-nothing, captures-nothing, reads-at-phase-0}
 use Rattle.bench_table.specs.Table.{rows, AllSay, BenchTable}
 use Rattle.bench_table.proofs.Clash.{zeros-against-eighty}
 
 -- ---- a length of 32
-none-of-32 : Says (lengths-hold-nothing (32 ∷ []))
-unfolding Says listed pick
+none-of-32 : SaysRow (lengths-hold-nothing (32 ∷ []))
+unfolding SaysRow listed pick
 none-of-32 any = member (32 ∷ []) any ∙ go (ℕ-discrete any 32)
   where
     go : Dec (any ≡ 32) → listed any (32 ∷ []) ≡ false
@@ -58,16 +58,16 @@ abbrev Waits : DaliBitbangPhy → Type 0
 Waits s = IsIdle s × (s .core .told .«rx_state» ≡ Empty)
 
 waits-on : (s : DaliBitbangPhy) → Waits s → Waits (tickOf s true)
-unfolding tickOf actOf idleTick silent fell heardOf pick
+unfolding tickOf tickIn idleTick silent fell runsCounted pick
 waits-on s w = rw (w .0) (refl, w .1)
 
-waits : (highs : ℕ) → Waits (heard (suc highs) (λ tick. getD (low ∷ []) tick high) newStation)
-unfolding heard tickOf actOf idleTick silent fell heardOf newStation newCore pick
+waits : (highs : ℕ) → Waits (afterLevels (suc highs) (λ tick. getD (low ∷ []) tick high) newStation)
+unfolding afterLevels tickOf tickIn idleTick silent fell runsCounted newStation newCore pick
 waits zero = (refl, refl)
-waits (suc n) = waits-on (heard (suc n) (λ tick. getD (low ∷ []) tick high) newStation) (waits n)
+waits (suc n) = waits-on (afterLevels (suc n) (λ tick. getD (low ∷ []) tick high) newStation) (waits n)
 
-none-of-one-low : Says (captures-nothing (replicate 1 low))
-unfolding Says tookRx isCompleted
+none-of-one-low : SaysRow (captures-nothing (replicate 1 low))
+unfolding SaysRow tookRx isCompleted
 none-of-one-low highs = let e : 1 + highs ≡ suc highs = omega arith in rw (e, waits highs .1)
 
 -- ---- a lone start bit
@@ -76,20 +76,20 @@ module _ (behind : List ℕ) (most : ℕ) where
   start = windowOf (0x0F ∷ 0xFF ∷ 0xFF ∷ behind) 3
 
   -- the start weighs 25, and the idle line behind it ends the phase where the maximum does not
-  one-bit : (phase.bitsOf start most (pos 0) ≡ pick (leb 0 most) (after 25 (bitsFrom 72 start most (pos 0) 9 1)) (bits []))
-      × (bitsFrom 72 start most (pos 0) 9 1 ≡ pick (leb 1 most) (bits []) (bits []))
+  one-bit : (phase.bitsOf start most (pos 0) ≡ pick (leb 0 most) (after 25 (bitsFrom 72 start most (pos 0) 9 1)) (weighed []))
+      × (bitsFrom 72 start most (pos 0) 9 1 ≡ pick (leb 1 most) (weighed []) (weighed []))
   unfolding phase.bitsOf bitsFrom weightAround strideAround strideOf windowOf tickAt peekAt weightOf folded halfWeight bitWeight
       packed pick
   one-bit = (refl, refl)
 
-  lone : phase.bitsOf start most (pos 0) ≡ bits (25 ∷ [])
+  lone : phase.bitsOf start most (pos 0) ≡ weighed (25 ∷ [])
   lone =
       one-bit .0
-      ∙ on-true (le-leb 0 most (omega arith)) (after 25 (bitsFrom 72 start most (pos 0) 9 1)) (bits [])
-      ∙ ap (after 25) (one-bit .1 ∙ on-either (leb 1 most) (bits []))
+      ∙ on-true (le-leb 0 most (omega arith)) (after 25 (bitsFrom 72 start most (pos 0) 9 1)) (weighed [])
+      ∙ ap (after 25) (one-bit .1 ∙ on-either (leb 1 most) (weighed []))
 
-lone-start : Says (reads-at-phase-0 (0x0F ∷ 0xFF ∷ 0xFF ∷ []) 1 25)
-unfolding Says phaseOf lengthOf scoreOf decodeOf pick
+lone-start : SaysRow (reads-at-phase-0 (0x0F ∷ 0xFF ∷ 0xFF ∷ []) 1 25)
+unfolding SaysRow phaseOf lengthOf scoreOf decodeOf pick
 lone-start behind most =
     (ap (λ b. decodeOf (pos 0) b .«bit_len») (lone behind most), ap (λ b. decodeOf (pos 0) b .score) (lone behind most))
 
@@ -100,9 +100,9 @@ abbrev _&_ : {A B : Type 0} → A → B → A × B
 _&_ one more = (one, more)
 
 pub bench-table : BenchTable
-unfolding rows AllSay Says weightOf folded halfWeight bitWeight holds setOf withLengths withLength sniffedLengths
+unfolding rows AllSay SaysRow weightOf folded halfWeight bitWeight holds setOf withLengths withLength sniffedLengths
     encodedOf isBitCount frameOf answerOf bufferOf storeOf pulls levelAt waveOf bitWaves bitWave bitsOf bytesOf bitAt
-    heard tickOf actOf idleTick silent fell entered rxTick wentOn sampled highRun filled finished notified idled heardOf
+    afterLevels tickOf tickIn idleTick silent fell entered rxTick wentOn sampled highRun filled finished notified idled runsCounted
     capture.bytesOf capture.byteIn capture.samplesOf capture.wordIn capture.withByte
     tookRx isCompleted eventOf newStation newCore
     sniffedOf foundOr searchedIn ticksOf lowsFirst longestLow

@@ -22,7 +22,7 @@ use Rattle.fsm.specs.Station.{newStation}
 use Rattle.fsm.specs.Calls.{tookRx}
 use Rattle.rx_decode.specs.Reading.{sniffedOf, foundIn, lowRunOf, heldOf}
 use Rattle.bench_line.specs.Line.{newLine}
-use Rattle.station_theorems.specs.Ticks.{heard}
+use Rattle.station_theorems.specs.Ticks.{afterLevels}
 use Rattle.frames.specs.ReadAs.{IsReady, taken}
 use Rattle.line_theorems.specs.OnLine.{Sender, Breaks}
 use Rattle.line_theorems.specs.TwoSenders.{bothOn}
@@ -30,7 +30,7 @@ use Rattle.line_theorems.specs.TwoSenders.{bothOn}
 -- ---- what rows speak of
 -- A new station that has sampled these levels, and as many high ones behind them.
 abbrev pub hearing : List Bool → ℕ → DaliBitbangPhy
-hearing levels highs = heard (length levels + highs) (λ tick. getD levels tick high) newStation
+hearing levels highs = afterLevels (length levels + highs) (λ tick. getD levels tick high) newStation
 
 -- The event of a capture of these bytes, with anything behind them in the store.
 abbrev pub eventWith : List ℕ → List ℕ → RxCompletedEvent
@@ -63,26 +63,26 @@ pub data Row : Type 0 where
   clashes : (one other : Sender) (number sees samples : ℕ) (found : Bool) → Row
 
 -- ---- what a row says
-unfoldable pub Says : Row → Type 0
-Says (weighs sample weight) = weightOf sample ≡ weight
-Says (lengths-hold lengths one) = holds (setOf lengths) one ≡ true
-Says (lengths-hold-nothing lengths) = (any : ℕ) → holds (setOf lengths) any ≡ false
-Says (encodes byte store halfBits) =
+unfoldable pub SaysRow : Row → Type 0
+SaysRow (weighs sample weight) = weightOf sample ≡ weight
+SaysRow (lengths-hold lengths one) = holds (setOf lengths) one ≡ true
+SaysRow (lengths-hold-nothing lengths) = (any : ℕ) → holds (setOf lengths) any ≡ false
+SaysRow (encodes byte store halfBits) =
     (second third : ℕ)
     → encodedOf 8 (frameOf 8 byte second third) ≡ record { buffer = record { «data» = store; length = halfBits }; answer = Length halfBits }
-Says (captures levels count bytes) =
+SaysRow (captures levels count bytes) =
     let s = hearing levels 16 in
     IsReady s × (taken s .«sample_count» ≡ count) × (take count (taken s .samples) ≡ bytes)
-Says (scores levels score) = sniffedOf (foundIn (taken (hearing levels 16))) .score ≡ score
-Says (captures-nothing levels) =
+SaysRow (scores levels score) = sniffedOf (foundIn (taken (hearing levels 16))) .score ≡ score
+SaysRow (captures-nothing levels) =
     (highs : ℕ) → tookRx (hearing levels highs) .completed ≡ false
-Says (reads-at-phase-0 capture bits score) =
+SaysRow (reads-at-phase-0 capture bits score) =
     (behind : List ℕ) (most : ℕ)
     → let d = phaseOf (windowOf (capture ++ behind) (length capture)) most (pos 0) in (d .«bit_len» ≡ bits) × (d .score ≡ score)
-Says (finds-nothing capture lengths steps) =
+SaysRow (finds-nothing capture lengths steps) =
     (behind : List ℕ) → runOf (newOf (setOf lengths)) (windowOf (capture ++ behind) (length capture)) ≡ record { found = Nothing; steps = steps }
-Says (runs-low capture ticks held) =
+SaysRow (runs-low capture ticks held) =
     (behind : List ℕ) → (lowRunOf (eventWith capture behind) ≡ ticks) × (heldOf (eventWith capture behind) ≡ held)
 -- (it samples at the fourteenth tick of its break)
-Says (clashes one other number sees samples found) =
+SaysRow (clashes one other number sees samples found) =
     Breaks (bothOn (newLine 2) one other) number sees found × (sees + 14 ≡ samples)

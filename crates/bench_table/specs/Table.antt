@@ -6,7 +6,7 @@ use Rattle.halfbits.specs.Frame.{Frame, bits-8, frameBits}
 use Rattle.halfbits.specs.Wave.{high, low, waveOf}
 use Rattle.frames.specs.Sends.{by-start-tx}
 use Rattle.line_theorems.specs.OnLine.{Sender}
-use Rattle.bench_table.specs.Row.{Row, weighs, lengths-hold, lengths-hold-nothing, encodes, captures, scores, captures-nothing, reads-at-phase-0, finds-nothing, runs-low, clashes, Says}
+use Rattle.bench_table.specs.Row.{Row, weighs, lengths-hold, lengths-hold-nothing, encodes, captures, scores, captures-nothing, reads-at-phase-0, finds-nothing, runs-low, clashes, SaysRow}
 
 -- the levels of a frame's wave
 abbrev pub wave : Frame → List Bool
@@ -50,7 +50,7 @@ rows =
 -- What each row of a list says is so.
 unfoldable pub AllSay : List Row → Type 0
 AllSay [] = Unit {0}
-AllSay (row ∷ more) = Says row × AllSay more
+AllSay (row ∷ more) = SaysRow row × AllSay more
 
 abbrev pub BenchTable : Type 0
 BenchTable = AllSay rows

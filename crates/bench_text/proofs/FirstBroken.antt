@@ -6,8 +6,8 @@ use mathlib.Core.List.{List, [], _∷_, _++_, append-nil}
 use mathlib.Core.Path.{_≡_, refl, sym, ap, _∙_}
 use Rattle.laws.specs.Pick.{pick}
 use Rattle.text.proofs.DecimalLaws.{both-true}
-use Rattle.bench_text.specs.declared.LineAnswer.{LineAnswer}
-use Rattle.bench_text.specs.declared.LineAnswer.the-variants.{Good, Refused}
+use Rattle.bench_text.specs.declared.BookLineAnswer.{BookLineAnswer}
+use Rattle.bench_text.specs.declared.BookLineAnswer.the-variants.{Good, Refused}
 use Rattle.bench_text.specs.declared.Refusal.{Refusal}
 use Rattle.bench_text.specs.Rules.{Rule, judgedBy}
 use Rattle.bench_text.specs.FirstBroken.{allHold, FirstOf, FirstBroken, numbersOf, ByNumber}
@@ -16,7 +16,7 @@ use Rattle.bench_text.specs.FirstBroken.{allHold, FirstOf, FirstBroken, 
 refused-not-good : (refusal : Refusal) → Refused refusal ≡ Good → ⊥
 refused-not-good refusal e = let z : _≡_ {A = ℕ} 0 1 = cc in omega arith
 
-good-step : (t all : Bool) (answer : LineAnswer) (refusal : Refusal) → (answer ≡ Good → all ≡ true) → pick t answer (Refused refusal) ≡ Good → (t && all) ≡ true
+good-step : (t all : Bool) (answer : BookLineAnswer) (refusal : Refusal) → (answer ≡ Good → all ≡ true) → pick t answer (Refused refusal) ≡ Good → (t && all) ≡ true
 unfolding pick
 good-step true all answer refusal ih e = ih e
 good-step false all answer refusal ih e = absurd (refused-not-good refusal e)
@@ -47,13 +47,13 @@ first-step r rs l refusal true u later e =
       rule = first .rule;
       behind = first .behind;
       stands = ap (λ (all : List Rule). r ∷ all) (first .stands);
-      kept = rw u (first .kept);
+      hold-before = rw u (first .hold-before);
       broken = first .broken;
       named = first .named;
     }
 first-step r rs l refusal false u later e =
     let said : Refused (r .refusal) ≡ Refused refusal = rw u at e in
-    record { before = []; rule = r; behind = rs; stands = refl; kept = refl; broken = u; named = cc }
+    record { before = []; rule = r; behind = rs; stands = refl; hold-before = refl; broken = u; named = cc }
 
 refused-first : (rs : List Rule) (l : List ℕ) (refusal : Refusal) → judgedBy rs l ≡ Refused refusal → FirstOf rs l refusal
 unfolding judgedBy
@@ -63,7 +63,7 @@ refused-first (r ∷ rs) l refusal e = first-step r rs l refusal (r .holds l) re
 first-refused : (rs : List Rule) (l : List ℕ) (refusal : Refusal) → FirstOf rs l refusal → judgedBy rs l ≡ Refused refusal
 unfolding judgedBy pick
 first-refused rs l refusal first =
-    ap (λ (all : List Rule). judgedBy all l) (first .stands) ∙ passed (first .before) (first .rule ∷ first .behind) l (first .kept)
+    ap (λ (all : List Rule). judgedBy all l) (first .stands) ∙ passed (first .before) (first .rule ∷ first .behind) l (first .hold-before)
     ∙ rw (first .broken) (ap Refused (first .named))
 
 pub first-broken : FirstBroken

@@ -18,21 +18,21 @@ use Rattle.text.specs.declared.decimals.Byte.{Byte}
 use Rattle.text.specs.declared.decimals.Byte.the-variants.{Is, Bad}
 use Rattle.text.proofs.DecimalLaws.{no-byte-read, byte-read}
 use Rattle.bench_text.specs.declared.BookLine.{BookLine}
-use Rattle.bench_text.specs.declared.LineAnswer.{LineAnswer}
-use Rattle.bench_text.specs.declared.LineAnswer.the-variants.{Good, Refused}
+use Rattle.bench_text.specs.declared.BookLineAnswer.{BookLineAnswer}
+use Rattle.bench_text.specs.declared.BookLineAnswer.the-variants.{Good, Refused}
 use Rattle.bench_text.specs.declared.Refusal.the-variants.{TooLong, NotFourFields, BadNumber, BadSamples}
-use Rattle.bench_text.specs.Rules.{silenceField, countField, samplesField, lineMax, silenceMax, countMax, isShort, hasFields, hasNumbers, hasSamples, judgedBy, judged, numberOf, lineNumber}
-use Rattle.bench_text.specs.Line.{captureWith, refusedLine, goodLine, lineAs, lineOf}
+use Rattle.bench_text.specs.Rules.{silenceField, countField, samplesField, lineMax, silenceMax, countMax, isShort, hasFields, hasNumbers, hasSamples, judgedBy, judged, bookLineAnswerNumber, refusalIn}
+use Rattle.bench_text.specs.Line.{captureWith, refusedLine, goodLine, bookLineAs, bookLineOf}
 
 -- ---- the number of the answer
-answer-number : (answer : LineAnswer) (l : List ℕ) → numberOf (lineAs answer l .answer) ≡ numberOf answer
-unfolding lineAs
+answer-number : (answer : BookLineAnswer) (l : List ℕ) → bookLineAnswerNumber (bookLineAs answer l .answer) ≡ bookLineAnswerNumber answer
+unfolding bookLineAs
 answer-number Good l = refl
 answer-number (Refused refusal) l = refl
 
 -- a result that keeps the first promise keeps the second
-pub with-number : (l : List ℕ) {r : BookLine} → r ≡ lineOf l → (r ≡ lineOf l) × (numberOf (r .answer) ≡ lineNumber l)
-with-number l e = (e, ap (λ (r : BookLine). numberOf (r .answer)) e ∙ answer-number (judged l) l)
+pub with-number : (l : List ℕ) {r : BookLine} → r ≡ bookLineOf l → (r ≡ bookLineOf l) × (bookLineAnswerNumber (r .answer) ≡ refusalIn l)
+with-number l e = (e, ap (λ (r : BookLine). bookLineAnswerNumber (r .answer)) e ∙ answer-number (judged l) l)
 
 -- ---- a field that is a number
 abbrev pub Number : ℕ → List ℕ → ℕ → Type 0
@@ -68,25 +68,25 @@ module _ (l : List ℕ) {n : ℕ} (counted : n ≡ countAt tab l) where
 
 -- ---- the rules, one after the other
 module _ (l : List ℕ) where
-  pub too-long : lineMax < length l → refusedLine TooLong ≡ lineOf l
-  unfolding judgedBy isShort lineAs
+  pub too-long : lineMax < length l → refusedLine TooLong ≡ bookLineOf l
+  unfolding judgedBy isShort bookLineAs
   too-long h = rw (on-false (lt-leb (length l) lineMax h))
 
   module _ (short : length l ≤ lineMax) where
-    pub no-fields : hasFields l ≡ false → refusedLine NotFourFields ≡ lineOf l
-    unfolding judgedBy isShort lineAs
+    pub no-fields : hasFields l ≡ false → refusedLine NotFourFields ≡ bookLineOf l
+    unfolding judgedBy isShort bookLineAs
     no-fields e = rw (on-true (le-leb (length l) lineMax short), on-false e)
 
     module _ (fields : hasFields l ≡ true) where
-      no-numbers : hasNumbers l ≡ false → refusedLine BadNumber ≡ lineOf l
-      unfolding judgedBy isShort lineAs
+      no-numbers : hasNumbers l ≡ false → refusedLine BadNumber ≡ bookLineOf l
+      unfolding judgedBy isShort bookLineAs
       no-numbers e = rw (on-true (le-leb (length l) lineMax short), on-true fields, on-false e)
 
-      pub no-silence : isUpTo silenceMax (silenceField l) ≡ false → refusedLine BadNumber ≡ lineOf l
+      pub no-silence : isUpTo silenceMax (silenceField l) ≡ false → refusedLine BadNumber ≡ bookLineOf l
       unfolding hasNumbers
       no-silence e = no-numbers (rw e)
 
-      pub no-count : isUpTo countMax (countField l) ≡ false → refusedLine BadNumber ≡ lineOf l
+      pub no-count : isUpTo countMax (countField l) ≡ false → refusedLine BadNumber ≡ bookLineOf l
       unfolding hasNumbers
       no-count e = no-numbers (rw e (and-false (isUpTo silenceMax (silenceField l))))
 
@@ -100,14 +100,14 @@ module _ (l : List ℕ) where
         unfolding judgedBy isShort hasNumbers
         by-numbers = rw (on-true (le-leb (length l) lineMax short), on-true fields, silence .0, count .0, by-samples) (on-true refl _ _)
 
-        pub no-samples : not good ≡ true → refusedLine BadSamples ≡ lineOf l
-        unfolding lineAs
+        pub no-samples : not good ≡ true → refusedLine BadSamples ≡ bookLineOf l
+        unfolding bookLineAs
         no-samples bad = rw (by-numbers, on-false (not-true good bad))
 
         -- the bytes that were read, with zeros past them
         pub good-line : not good ≡ false → {bytes : List ℕ} → bytes ≡ filledBy own (take n (zeros countMax))
-            → goodLine (record { silence = s; count = n; samples = bytes ++ drop n (zeros countMax) }) ≡ lineOf l
-        unfolding lineAs captureWith filledBy
+            → goodLine (record { silence = s; count = n; samples = bytes ++ drop n (zeros countMax) }) ≡ bookLineOf l
+        unfolding bookLineAs captureWith filledBy
         good-line taken {bytes} filled =
             rw (
               filled,

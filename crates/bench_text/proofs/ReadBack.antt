@@ -21,7 +21,7 @@ use Rattle.text.proofs.FieldLaws.{fields-back}
 use Rattle.text.proofs.DecimalLaws.{both-true, length-decimal, decimal-back}
 use Rattle.text.proofs.HexLaws.{length-hexes, hexes-hex, hexes-bytes}
 use Rattle.bench_text.specs.Rules.{lineMax, silenceMax, countMax, isShort, hasFields, hasNumbers, hasSamples, judgedBy}
-use Rattle.bench_text.specs.Line.{captureWith, goodLine, lineAs, lineOf}
+use Rattle.bench_text.specs.Line.{captureWith, goodLine, bookLineAs, bookLineOf}
 use Rattle.bench_text.specs.ReadBack.{lineFor, ReadBack}
 
 -- ---- fields without a tab
@@ -54,8 +54,8 @@ module _ (n : ℕ) (h : n < 256) where
 
 -- ---- the line
 module _ (silence : ℕ) (samples : List ℕ) (low : silence ≤ silenceMax) (few : length samples ≤ countMax) (bytes : AllBytes samples) where
-  abbrev line : List ℕ
-  line = lineFor silence samples
+  abbrev text : List ℕ
+  text = lineFor silence samples
 
   abbrev count : ℕ
   count = length samples
@@ -77,10 +77,10 @@ module _ (silence : ℕ) (samples : List ℕ) (low : silence ≤ silenceMax) (fe
   no-tabs (suc (suc (suc zero))) j h = hex-without (hexesOf samples) (hexes-hex samples bytes) j h
   no-tabs (suc (suc (suc (suc i)))) j h = absurd (omega (arith, h))
 
-  four : fieldsAt tab line ≡ parts
+  four : fieldsAt tab text ≡ parts
   four = fields-back tab (word "C") (decimalOf silence ∷ decimalOf count ∷ hexesOf samples ∷ []) no-tabs
 
-  short : length line ≤ lineMax
+  short : length text ≤ lineMax
   unfolding joinedBy
   short =
       rw (
@@ -89,25 +89,25 @@ module _ (silence : ℕ) (samples : List ℕ) (low : silence ≤ silenceMax) (fe
         length-hexes samples,
       ) (omega (arith, decimal-short silence low-byte, decimal-short count few-byte))
 
-  is-short : isShort line ≡ true
+  is-short : isShort text ≡ true
   unfolding isShort
-  is-short = le-leb (length line) lineMax short
+  is-short = le-leb (length text) lineMax short
 
-  good-fields : hasFields line ≡ true
+  good-fields : hasFields text ≡ true
   unfolding hasFields sameText
   good-fields = rw four
 
-  good-numbers : hasNumbers line ≡ true
+  good-numbers : hasNumbers text ≡ true
   unfolding hasNumbers
   good-numbers = rw (four, up-to silence low-byte silenceMax low, up-to count few-byte countMax few)
 
-  good-samples : hasSamples line ≡ true
+  good-samples : hasSamples text ≡ true
   unfolding hasSamples isHex
   good-samples =
       rw (four, value count few-byte, eq-eqb (length (hexesOf samples)) (2 * count) (length-hexes samples), hexes-hex samples bytes)
 
-  back : lineOf line ≡ goodLine (captureWith silence count samples)
-  unfolding judgedBy lineAs
+  back : bookLineOf text ≡ goodLine (captureWith silence count samples)
+  unfolding judgedBy bookLineAs
   back =
       rw (
         on-true is-short,
@@ -137,5 +137,5 @@ three-bytes (suc zero) = omega arith
 three-bytes (suc (suc zero)) = omega arith
 three-bytes (suc (suc (suc i))) = omega arith
 
-pub shown : lineOf (word "C\t16\t3\t0ff0ff") ≡ goodLine (captureWith 16 3 three)
-shown = ap lineOf (sym line-shown) ∙ read-back 16 three (omega arith) (omega arith) three-bytes
+pub shown : bookLineOf (word "C\t16\t3\t0ff0ff") ≡ goodLine (captureWith 16 3 three)
+shown = ap bookLineOf (sym line-shown) ∙ read-back 16 three (omega arith) (omega arith) three-bytes

@@ -4,30 +4,30 @@ use mathlib.Core.Bool.{Bool, true, false, _&&_}
 use mathlib.Core.List.{List, [], _∷_, _++_}
 use mathlib.Core.Logic.{_↔_}
 use mathlib.Core.Path.{_≡_}
-use Rattle.bench_text.specs.declared.LineAnswer.the-variants.{Good, Refused}
+use Rattle.bench_text.specs.declared.BookLineAnswer.the-variants.{Good, Refused}
 use Rattle.bench_text.specs.declared.Refusal.{Refusal}
 use Rattle.bench_text.specs.Rules.{Rule, rules, judgedBy, refusalNumber}
 
 unfoldable pub allHold : List Rule → List ℕ → Bool
-allHold [] line = true
-allHold (rule ∷ rules) line = rule .holds line && allHold rules line
+allHold [] text = true
+allHold (rule ∷ rules) text = rule .holds text && allHold rules text
 
 -- the first rule of a list that a line breaks
-pub record FirstOf (rules : List Rule) (line : List ℕ) (refusal : Refusal) : Type 0 where
+pub record FirstOf (rules : List Rule) (text : List ℕ) (refusal : Refusal) : Type 0 where
   pub before : List Rule
   pub rule : Rule
   pub behind : List Rule
   pub stands : rules ≡ before ++ (rule ∷ behind)
-  pub kept : allHold before line ≡ true
-  pub broken : rule .holds line ≡ false
+  pub hold-before : allHold before text ≡ true
+  pub broken : rule .holds text ≡ false
   pub named : rule .refusal ≡ refusal
 
 -- A line is good exactly where all the rules hold, and it is refused by just the first rule that it breaks.
 abbrev pub FirstBroken : Type 0
 FirstBroken =
-    (rules : List Rule) (line : List ℕ)
-    → ((judgedBy rules line ≡ Good) ↔ (allHold rules line ≡ true))
-    × ((refusal : Refusal) → (judgedBy rules line ≡ Refused refusal) ↔ FirstOf rules line refusal)
+    (rules : List Rule) (text : List ℕ)
+    → ((judgedBy rules text ≡ Good) ↔ (allHold rules text ≡ true))
+    × ((refusal : Refusal) → (judgedBy rules text ≡ Refused refusal) ↔ FirstOf rules text refusal)
 
 -- the numbers of the rules' refusals
 unfoldable pub numbersOf : List Rule → List ℕ

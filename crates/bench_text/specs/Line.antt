@@ -6,8 +6,8 @@ use Rattle.text.specs.Decimals.{valueOf}
 use Rattle.text.specs.Hex.{bytesOf}
 use Rattle.bench_text.specs.declared.BookLine.{BookLine}
 use Rattle.bench_text.specs.declared.Capture.{Capture}
-use Rattle.bench_text.specs.declared.LineAnswer.{LineAnswer}
-use Rattle.bench_text.specs.declared.LineAnswer.the-variants.{Good, Refused}
+use Rattle.bench_text.specs.declared.BookLineAnswer.{BookLineAnswer}
+use Rattle.bench_text.specs.declared.BookLineAnswer.the-variants.{Good, Refused}
 use Rattle.bench_text.specs.declared.Refusal.{Refusal}
 use Rattle.bench_text.specs.Rules.{countMax, silenceField, countField, samplesField, judged}
 
@@ -17,7 +17,7 @@ captureWith silence count samples = record { silence = silence; count = count; s
 
 -- what the fields of a good line say
 abbrev pub captureIn : List ℕ → Capture
-captureIn line = captureWith (valueOf (silenceField line)) (valueOf (countField line)) (bytesOf (samplesField line))
+captureIn text = captureWith (valueOf (silenceField text)) (valueOf (countField text)) (bytesOf (samplesField text))
 
 abbrev pub noCapture : Capture
 noCapture = record { silence = 0; count = 0; samples = replicate countMax 0 }
@@ -28,9 +28,9 @@ refusedLine refusal = record { answer = Refused refusal; capture = noCapture }
 abbrev pub goodLine : Capture → BookLine
 goodLine capture = record { answer = Good; capture = capture }
 
-unfoldable pub lineAs : LineAnswer → List ℕ → BookLine
-lineAs Good line = goodLine (captureIn line)
-lineAs (Refused refusal) line = refusedLine refusal
+unfoldable pub bookLineAs : BookLineAnswer → List ℕ → BookLine
+bookLineAs Good text = goodLine (captureIn text)
+bookLineAs (Refused refusal) text = refusedLine refusal
 
-abbrev pub lineOf : List ℕ → BookLine
-lineOf line = lineAs (judged line) line
+abbrev pub bookLineOf : List ℕ → BookLine
+bookLineOf text = bookLineAs (judged text) text

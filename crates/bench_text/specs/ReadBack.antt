@@ -9,7 +9,7 @@ use Rattle.text.specs.Decimals.{decimalOf}
 use Rattle.text.specs.Hex.{hexesOf}
 use Rattle.text.specs.ReadBack.{AllBytes}
 use Rattle.bench_text.specs.Rules.{silenceMax, countMax}
-use Rattle.bench_text.specs.Line.{captureWith, goodLine, lineOf}
+use Rattle.bench_text.specs.Line.{captureWith, goodLine, bookLineOf}
 
 -- C, silence, count, samples
 abbrev pub lineFor : ℕ → List ℕ → List ℕ
@@ -19,4 +19,4 @@ lineFor silence samples = joinedBy tab (word "C" ∷ decimalOf silence ∷ decim
 abbrev pub ReadBack : Type 0
 ReadBack =
     (silence : ℕ) (samples : List ℕ) → silence ≤ silenceMax → length samples ≤ countMax → AllBytes samples
-    → lineOf (lineFor silence samples) ≡ goodLine (captureWith silence (length samples) samples)
+    → bookLineOf (lineFor silence samples) ≡ goodLine (captureWith silence (length samples) samples)

@@ -10,21 +10,21 @@ use Rattle.text.specs.Fields.{countAt, fieldAt}
 use Rattle.text.specs.Words.{sameText}
 use Rattle.text.specs.Decimals.{valueOf, isUpTo}
 use Rattle.text.specs.Hex.{isHex}
-use Rattle.bench_text.specs.declared.LineAnswer.{LineAnswer}
-use Rattle.bench_text.specs.declared.LineAnswer.the-variants.{Good, Refused}
+use Rattle.bench_text.specs.declared.BookLineAnswer.{BookLineAnswer}
+use Rattle.bench_text.specs.declared.BookLineAnswer.the-variants.{Good, Refused}
 use Rattle.bench_text.specs.declared.Refusal.{Refusal}
 use Rattle.bench_text.specs.declared.Refusal.the-variants.{TooLong, NotFourFields, BadNumber, BadSamples}
 
 -- ---- the fields
 -- A tab parts two fields: C, the silence in ticks, the count of samples, and the samples.
 abbrev pub silenceField : List ℕ → List ℕ
-silenceField line = fieldAt tab 1 line
+silenceField text = fieldAt tab 1 text
 
 abbrev pub countField : List ℕ → List ℕ
-countField line = fieldAt tab 2 line
+countField text = fieldAt tab 2 text
 
 abbrev pub samplesField : List ℕ → List ℕ
-samplesField line = fieldAt tab 3 line
+samplesField text = fieldAt tab 3 text
 
 -- ---- the limits
 -- as many bytes as a line may have before its LF
@@ -40,18 +40,18 @@ countMax = 64
 
 -- ---- the rules
 unfoldable pub isShort : List ℕ → Bool
-isShort line = leb (length line) lineMax
+isShort text = leb (length text) lineMax
 
 unfoldable pub hasFields : List ℕ → Bool
-hasFields line = eqb (countAt tab line) 4 && sameText (fieldAt tab 0 line) (word "C")
+hasFields text = eqb (countAt tab text) 4 && sameText (fieldAt tab 0 text) (word "C")
 
 -- decimals without leading zeros
 unfoldable pub hasNumbers : List ℕ → Bool
-hasNumbers line = isUpTo silenceMax (silenceField line) && isUpTo countMax (countField line)
+hasNumbers text = isUpTo silenceMax (silenceField text) && isUpTo countMax (countField text)
 
 -- two lower-case hex digits for each sample
 unfoldable pub hasSamples : List ℕ → Bool
-hasSamples line = isHex (valueOf (countField line)) (samplesField line)
+hasSamples text = isHex (valueOf (countField text)) (samplesField text)
 
 -- a rule, and why a line that breaks it is refused
 pub record Rule : Type 0 where
@@ -68,12 +68,12 @@ rules =
 
 -- ---- the answer
 -- The first rule that a line breaks is the one that it is refused by.
-unfoldable pub judgedBy : List Rule → List ℕ → LineAnswer
-judgedBy [] line = Good
-judgedBy (rule ∷ rules) line = pick (rule .holds line) (judgedBy rules line) (Refused (rule .refusal))
+unfoldable pub judgedBy : List Rule → List ℕ → BookLineAnswer
+judgedBy [] text = Good
+judgedBy (rule ∷ rules) text = pick (rule .holds text) (judgedBy rules text) (Refused (rule .refusal))
 
-abbrev pub judged : List ℕ → LineAnswer
-judged line = judgedBy rules line
+abbrev pub judged : List ℕ → BookLineAnswer
+judged text = judgedBy rules text
 
 -- ---- the numbers
 abbrev pub refusalNumber : Refusal → ℕ
@@ -83,9 +83,9 @@ refusalNumber BadNumber = 3
 refusalNumber BadSamples = 4
 
 -- each answer with its number; 0 is no refusal
-unfoldable pub numberOf : LineAnswer → ℕ
-numberOf Good = 0
-numberOf (Refused refusal) = refusalNumber refusal
+unfoldable pub bookLineAnswerNumber : BookLineAnswer → ℕ
+bookLineAnswerNumber Good = 0
+bookLineAnswerNumber (Refused refusal) = refusalNumber refusal
 
-abbrev pub lineNumber : List ℕ → ℕ
-lineNumber line = numberOf (judged line)
+abbrev pub refusalIn : List ℕ → ℕ
+refusalIn text = bookLineAnswerNumber (judged text)

@@ -2,8 +2,8 @@
 // the order of specs/Rules.antt.
 ghost use mathlib.Core.Path.{_≡_};
 ghost use Rattle.bench_text.specs.Constants.{publicConstants};
-ghost use Rattle.bench_text.specs.Rules.{refusalNumber, numberOf, lineNumber};
-ghost use Rattle.bench_text.specs.Line.{lineOf, refusedLine};
+ghost use Rattle.bench_text.specs.Rules.{refusalNumber, bookLineAnswerNumber, refusalIn};
+ghost use Rattle.bench_text.specs.Line.{bookLineOf, refusedLine};
 use text::decimals;
 use text::decimals::Byte;
 use text::fields;
@@ -56,39 +56,39 @@ pub struct Capture {
     pub samples: [u8; DALI_RX_SAMPLE_BUF_LEN],
 }
 
-pub enum LineAnswer {
+pub enum BookLineAnswer {
     Good,
     Refused(Refusal),
 }
 
 // The capture stands beside the answer, since an enum holds no array. A refused line has an empty one.
 pub struct BookLine {
-    pub answer: LineAnswer,
+    pub answer: BookLineAnswer,
     pub capture: Capture,
 }
 
-pub fn parse_line(line: &[u8]) -> BookLine
-    ensures { λ r. ⌜ r ≡ lineOf (now (line .entry)) ⌝ }
-    ensures { λ r. ⌜ numberOf (r .answer) ≡ lineNumber (now (line .entry)) ⌝ }
+pub fn parse_line(text: &[u8]) -> BookLine
+    ensures { λ r. ⌜ r ≡ bookLineOf (now (text .entry)) ⌝ }
+    ensures { λ r. ⌜ bookLineAnswerNumber (r .answer) ≡ refusalIn (now (text .entry)) ⌝ }
 {
-    if LINE_MAX < line.len() {
+    if LINE_MAX < text.len() {
         return refused(Refusal::TooLong);
     }
-    if fields::count(line, b'\t') != 4 {
+    if fields::count(text, b'\t') != 4 {
         return refused(Refusal::NotFourFields);
     }
-    if !words::is(fields::field(line, b'\t', 0), b"C") {
+    if !words::is(fields::field(text, b'\t', 0), b"C") {
         return refused(Refusal::NotFourFields);
     }
-    let Byte::Is(silence) = decimals::read_byte(fields::field(line, b'\t', 1), SILENCE_MAX) else {
+    let Byte::Is(silence) = decimals::read_byte(fields::field(text, b'\t', 1), SILENCE_MAX) else {
         return refused(Refusal::BadNumber);
     };
-    let Byte::Is(count) = decimals::read_byte(fields::field(line, b'\t', 2), COUNT_MAX) else {
+    let Byte::Is(count) = decimals::read_byte(fields::field(text, b'\t', 2), COUNT_MAX) else {
         return refused(Refusal::BadNumber);
     };
     let mut samples = [0u8; DALI_RX_SAMPLE_BUF_LEN];
     let n = count as usize;
-    if !hex::read_hex(fields::field(line, b'\t', 3), &mut samples[..n]) {
+    if !hex::read_hex(fields::field(text, b'\t', 3), &mut samples[..n]) {
         return refused(Refusal::BadSamples);
     }
     let capture = Capture {
@@ -97,7 +97,7 @@ pub fn parse_line(line: &[u8]) -> BookLine
         samples,
     };
     BookLine {
-        answer: LineAnswer::Good,
+        answer: BookLineAnswer::Good,
         capture,
     }
 }
@@ -111,7 +111,7 @@ fn refused(refusal: Refusal) -> BookLine
         samples: [0; DALI_RX_SAMPLE_BUF_LEN],
     };
     BookLine {
-        answer: LineAnswer::Refused(refusal),
+        answer: BookLineAnswer::Refused(refusal),
         capture,
     }
 }

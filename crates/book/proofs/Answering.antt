@@ -10,10 +10,10 @@ use Rattle.text.specs.Writing.{placeAfter, bufferAfter}
 use Rattle.text.proofs.WritingLaws.{stored}
 use Rattle.bench_text.specs.declared.BookLine.{BookLine}
 use Rattle.bench_text.specs.declared.Capture.{Capture}
-use Rattle.bench_text.specs.declared.LineAnswer.{LineAnswer}
-use Rattle.bench_text.specs.declared.LineAnswer.the-variants.{Good, Refused}
+use Rattle.bench_text.specs.declared.BookLineAnswer.{BookLineAnswer}
+use Rattle.bench_text.specs.declared.BookLineAnswer.the-variants.{Good, Refused}
 use Rattle.bench_text.specs.declared.Refusal.{Refusal}
-use Rattle.bench_text.specs.Line.{lineOf}
+use Rattle.bench_text.specs.Line.{bookLineOf}
 use Rattle.bench_reading.specs.declared.Reading.{Reading}
 use Rattle.bench_reading.specs.Reading.{readingOf, isDecoded}
 use Rattle.bench_answers.specs.declared.Counts.{Counts}
@@ -62,13 +62,13 @@ whatever : {c : Counts} {refusal : Refusal} {place : ℕ} {before after : List �
 unfolding countedAs isDecodedAs answerAs
 whatever capture a = record { counts = a .counts; past = a .past; within = a .within; left = a .left }
 
-module _ (c : Counts) {line text : List ℕ} (h : text ≡ line) {read : BookLine} (e : read ≡ lineOf text) (place : ℕ) (before after : List ℕ) (r : Ended) where
-  of-read : (answer : LineAnswer) → read .answer ≡ answer → Answered c answer (read .capture) place before after r
+module _ (c : Counts) {line text : List ℕ} (h : text ≡ line) {read : BookLine} (e : read ≡ bookLineOf text) (place : ℕ) (before after : List ℕ) (r : Ended) where
+  of-read : (answer : BookLineAnswer) → read .answer ≡ answer → Answered c answer (read .capture) place before after r
       → AnsweredLine c line place before after r
   of-read answer f a =
       subst (λ (b : BookLine). Answered c (b .answer) (b .capture) place before after r)
-      (e ∙ ap lineOf h)
-      (subst (λ (x : LineAnswer). Answered c x (read .capture) place before after r) (sym f) a)
+      (e ∙ ap bookLineOf h)
+      (subst (λ (x : BookLineAnswer). Answered c x (read .capture) place before after r) (sym f) a)
 
   pub of-capture : read .answer ≡ Good → Answered c Good (read .capture) place before after r → AnsweredLine c line place before after r
   of-capture f a = of-read Good f a

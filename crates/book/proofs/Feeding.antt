@@ -11,7 +11,7 @@ use Rattle.laws.proofs.Picked.{on-true, on-false}
 use Rattle.text.proofs.WritingLaws.{sets-append}
 use Rattle.lines.specs.declared.Lines.{Lines}
 use Rattle.lines.specs.declared.Taken.{Taken}
-use Rattle.lines.specs.Lines.{heldBy, waiting, kept, emptied, partFrom, endsFrom, taken}
+use Rattle.lines.specs.Lines.{heldBy, waiting, extended, emptied, partFrom, endsFrom, taken}
 use Rattle.lines.specs.Chunk.{ended, after as linesAfter}
 use Rattle.lines.proofs.Steps.{line-ends, goes-on, no-line-ends, rest-waits, place-grows, place-within, place-is-end}
 use Rattle.bench_answers.specs.declared.Counts.{Counts}
@@ -62,8 +62,8 @@ module _ {chunk before : List ℕ} {r₀ : BookReader} {buffer : List ℕ} {r : 
 
   -- what `take` did
   module _ (h : from < length chunk) {t : Taken} {held : List ℕ} (took : t ≡ taken (r .lines) chunk from)
-      (holds : held ≡ kept (r .lines) (partFrom chunk from) .held) where
-    waits : heldBy held (t .len) ≡ kept (r .lines) (partFrom chunk from)
+      (holds : held ≡ extended (r .lines) (partFrom chunk from) .held) where
+    waits : heldBy held (t .len) ≡ extended (r .lines) (partFrom chunk from)
     unfolding taken
     waits = rw (took, holds)
 

@@ -21,7 +21,7 @@ use Rattle.lines.proofs.AnyChunks.{lines-of-any-chunks}
 use Rattle.bench_text.specs.declared.BookLine.{BookLine}
 use Rattle.bench_text.specs.declared.Refusal.the-variants.{TooLong}
 use Rattle.bench_text.specs.Rules.{lineMax, isShort, judgedBy}
-use Rattle.bench_text.specs.Line.{refusedLine, lineAs, lineOf}
+use Rattle.bench_text.specs.Line.{refusedLine, bookLineAs, bookLineOf}
 use Rattle.bench_answers.specs.declared.Counts.{Counts}
 use Rattle.bench_answers.specs.Answer.{endText}
 use Rattle.book.specs.declared.BookReader.{BookReader}
@@ -87,16 +87,16 @@ of-chunks r (chunk ∷ chunks) =
     ∙ ap (rest (r .counts)) (sym (take-append left now later))
 
 -- ---- a line is known by the bytes that are kept of it
-line-long : (l : List ℕ) → lineMax < length l → lineOf l ≡ refusedLine TooLong
-unfolding judgedBy isShort lineAs
+line-long : (l : List ℕ) → lineMax < length l → bookLineOf l ≡ refusedLine TooLong
+unfolding judgedBy isShort bookLineAs
 line-long l h = rw (on-false (lt-leb (length l) lineMax h))
 
-known : (l : List ℕ) (t : Bool) → ltb lineRoom (length l) ≡ t → lineOf (take lineRoom l) ≡ lineOf l
+known : (l : List ℕ) (t : Bool) → ltb lineRoom (length l) ≡ t → bookLineOf (take lineRoom l) ≡ bookLineOf l
 known l true e =
     let h : lineRoom < length l = ltb-true lineRoom (length l) e in
     let k : length (take lineRoom l) ≡ lineRoom = length-take-le lineRoom l (omega arith) in
     line-long (take lineRoom l) (omega arith) ∙ sym (line-long l (omega arith))
-known l false e = ap lineOf (take-all lineRoom l (ltb-false lineRoom (length l) e))
+known l false e = ap bookLineOf (take-all lineRoom l (ltb-false lineRoom (length l) e))
 
 short-take : (n : ℕ) (ls : List (List ℕ)) → take n (shortened ls) ≡ shortened (take n ls)
 unfolding shortened

@@ -10,10 +10,10 @@ use Rattle.lines.specs.declared.Lines.{Lines}
 use Rattle.lines.specs.Lines.{newLines}
 use Rattle.lines.specs.Chunk.{ended, after as linesAfter}
 use Rattle.lines.specs.AnyChunks.{lastOf}
-use Rattle.bench_text.specs.declared.LineAnswer.{LineAnswer}
+use Rattle.bench_text.specs.declared.BookLineAnswer.{BookLineAnswer}
 use Rattle.bench_text.specs.declared.BookLine.{BookLine}
 use Rattle.bench_text.specs.declared.Capture.{Capture}
-use Rattle.bench_text.specs.Line.{lineOf}
+use Rattle.bench_text.specs.Line.{bookLineOf}
 use Rattle.bench_answers.specs.declared.Counts.{Counts}
 use Rattle.bench_answers.specs.Answer.{rowMax, endMax, endText}
 use Rattle.book.specs.declared.BookReader.{BookReader}
@@ -41,7 +41,7 @@ isOver r = r .over || (isFull r && ltb 0 (r .lines .len))
 abbrev pub oneMore : ℕ → ℕ
 oneMore n = min (n + 1) linesMax
 
-unfoldable pub countedAs : Counts → LineAnswer → Capture → Counts
+unfoldable pub countedAs : Counts → BookLineAnswer → Capture → Counts
 countedAs c answer capture =
     record {
       lines = c .lines + 1;
@@ -50,11 +50,11 @@ countedAs c answer capture =
     }
 
 abbrev pub counted : Counts → List ℕ → Counts
-counted c line = countedAs c (lineOf line .answer) (lineOf line .capture)
+counted c text = countedAs c (bookLineOf text .answer) (bookLineOf text .capture)
 
 unfoldable pub countedOver : Counts → List (List ℕ) → Counts
 countedOver c [] = c
-countedOver c (line ∷ lines) = countedOver (counted c line) lines
+countedOver c (text ∷ lines) = countedOver (counted c text) lines
 
 -- those of the lines that are read: as many as the book may still have
 abbrev pub readOf : BookReader → List (List ℕ) → List (List ℕ)

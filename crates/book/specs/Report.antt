@@ -5,43 +5,43 @@ use mathlib.Core.List.{List, [], _∷_, _++_}
 use lib.ListN.{length, take}
 use Rattle.laws.specs.Bit.{bit}
 use Rattle.lines.specs.Lines.{linesOf}
-use Rattle.bench_text.specs.declared.LineAnswer.{LineAnswer}
-use Rattle.bench_text.specs.declared.LineAnswer.the-variants.{Good, Refused}
+use Rattle.bench_text.specs.declared.BookLineAnswer.{BookLineAnswer}
+use Rattle.bench_text.specs.declared.BookLineAnswer.the-variants.{Good, Refused}
 use Rattle.bench_text.specs.declared.BookLine.{BookLine}
 use Rattle.bench_text.specs.declared.Capture.{Capture}
-use Rattle.bench_text.specs.Line.{lineOf}
+use Rattle.bench_text.specs.Line.{bookLineOf}
 use Rattle.bench_reading.specs.Reading.{readingOf, isDecoded}
 use Rattle.bench_answers.specs.declared.Counts.{Counts}
 use Rattle.bench_answers.specs.Answer.{rowText, badText, endText}
 
 -- ---- the answer to a line
 -- a row for a good line; BAD for a refused one
-unfoldable pub answerAs : ℕ → LineAnswer → Capture → List ℕ
+unfoldable pub answerAs : ℕ → BookLineAnswer → Capture → List ℕ
 answerAs number Good capture = rowText number capture (readingOf capture)
 answerAs number (Refused refusal) capture = badText number refusal
 
 abbrev pub answerText : ℕ → List ℕ → List ℕ
-answerText number line = answerAs number (lineOf line .answer) (lineOf line .capture)
+answerText number text = answerAs number (bookLineOf text .answer) (bookLineOf text .capture)
 
 -- ---- what is counted
-unfoldable pub isDecodedAs : LineAnswer → Capture → Bool
+unfoldable pub isDecodedAs : BookLineAnswer → Capture → Bool
 isDecodedAs Good capture = isDecoded (readingOf capture)
 isDecodedAs (Refused refusal) capture = false
 
-unfoldable pub isRefusedAs : LineAnswer → Bool
+unfoldable pub isRefusedAs : BookLineAnswer → Bool
 isRefusedAs Good = false
 isRefusedAs (Refused refusal) = true
 
 abbrev pub isDecodedLine : List ℕ → Bool
-isDecodedLine line = isDecodedAs (lineOf line .answer) (lineOf line .capture)
+isDecodedLine text = isDecodedAs (bookLineOf text .answer) (bookLineOf text .capture)
 
 abbrev pub isRefusedLine : List ℕ → Bool
-isRefusedLine line = isRefusedAs (lineOf line .answer)
+isRefusedLine text = isRefusedAs (bookLineOf text .answer)
 
 -- how many of the lines pass a test
 unfoldable pub countOf : (List ℕ → Bool) → List (List ℕ) → ℕ
 countOf test [] = 0
-countOf test (line ∷ lines) = bit (test line) + countOf test lines
+countOf test (text ∷ lines) = bit (test text) + countOf test lines
 
 abbrev pub countsOf : List (List ℕ) → Counts
 countsOf lines = record { lines = length lines; decoded = countOf isDecodedLine lines; refused = countOf isRefusedLine lines }
@@ -50,7 +50,7 @@ countsOf lines = record { lines = length lines; decoded = countOf isDecodedLine 
 -- the lines from number n on, each answered under its number
 unfoldable pub answersFrom : ℕ → List (List ℕ) → List ℕ
 answersFrom n [] = []
-answersFrom n (line ∷ lines) = answerText n line ++ answersFrom (suc n) lines
+answersFrom n (text ∷ lines) = answerText n text ++ answersFrom (suc n) lines
 
 unfoldable pub reportOf : List (List ℕ) → List ℕ
 reportOf lines = answersFrom 1 lines ++ endText (countsOf lines)

@@ -4,7 +4,7 @@ ghost use mathlib.Core.Path.{_≡_};
 ghost use Prim.Native.Nat.{_+_, _*_, _≤_, _<_};
 ghost use lib.ListN.{length, take as first};
 ghost use Rattle.bench_answers.specs.Answer.{rowMax};
-ghost use Rattle.bench_text.specs.declared.LineAnswer.the-variants.{Good, Refused};
+ghost use Rattle.bench_text.specs.declared.BookLineAnswer.the-variants.{Good, Refused};
 ghost use Rattle.book.specs.Constants.{publicConstants};
 ghost use Rattle.book.specs.Report.{linesMax};
 ghost use Rattle.book.specs.Reader.{oneMore, newReader, isFull, isOver, bytesIn, fed, bufferFed, finished, bufferFinished};
@@ -12,8 +12,8 @@ ghost use Rattle.book.specs.Code.{Answered, AnsweredLine, anyCapture};
 use bench_answers::Counts;
 use bench_answers::END_MAX;
 use bench_answers::ROW_MAX;
+use bench_text::BookLineAnswer;
 use bench_text::Capture;
-use bench_text::LineAnswer;
 use bench_text::Refusal;
 use lines::LINE_ROOM;
 use lines::Lines;
@@ -196,14 +196,14 @@ fn end_line(counts: Counts, held: &[u8; LINE_ROOM], len: usize, out: &mut [u8], 
     requires { ⌜ at + rowMax ≤ length (now out) ⌝ }
     ensures { λ r. ⌜ AnsweredLine counts (first len (now (held .entry))) at (now (out .entry)) (now (out .exit)) r ⌝ }
 {
-    let line = bench_text::parse_line(fields::first(held, len));
-    let answer = line.answer;
+    let read = bench_text::parse_line(fields::first(held, len));
+    let answer = read.answer;
     match answer {
-        LineAnswer::Good => {
-            let capture = line.capture;
+        BookLineAnswer::Good => {
+            let capture = read.capture;
             answer_capture(counts, capture, out, at)
         }
-        LineAnswer::Refused(refusal) => answer_refused(counts, refusal, out, at),
+        BookLineAnswer::Refused(refusal) => answer_refused(counts, refusal, out, at),
     }
 }
 

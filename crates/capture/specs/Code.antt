@@ -6,4 +6,4 @@ use Rattle.laws.specs.Pick.{pick}
 
 -- a word with some bits in the place of a mask, where a test holds
 unfoldable pub wordWith : ℕ → Bool → ℕ → ℕ → ℕ
-wordWith word hit mask bits = pick hit (bitOr (word - bitAnd word mask) bits) word
+wordWith word hit mask put = pick hit (bitOr (word - bitAnd word mask) put) word

@@ -15,14 +15,14 @@ use Rattle.halfbits.specs.Frame.{bits-8, bits-24, bytesOf, bitsOf, frameBits}
 use Rattle.halfbits.specs.Wave.{low, high, bitWave, bitWaves, waveOf, levelAt}
 use Rattle.halfbits.specs.Encoding.{isBitCount, frameOf, encodedOf}
 use Rattle.machine.specs.declared.CollisionPolicy.the-variants.{Auto, Off, On}
-use Rattle.machine.specs.Runs.{heardOf}
+use Rattle.machine.specs.Runs.{runsCounted}
 use Rattle.machine.specs.BecomingIdle.{idled}
 use Rattle.fsm.specs.Rx.{highRun, sampled, finished, filled, notified, rxTick, wentOn}
 use Rattle.machine.specs.Idle.{entered, idleTick, silent, fell}
 use Rattle.fsm.specs.declared.DaliBitbangPhy.{DaliBitbangPhy}
 use Rattle.fsm.specs.declared.TxPollResult.the-variants.{Ok, Transmitting}
 use Rattle.fsm.specs.Station.{newCore, newStation}
-use Rattle.fsm.specs.Ticking.{actOf, tickOf}
+use Rattle.fsm.specs.Ticking.{tickIn, tickOf}
 use Rattle.machine.specs.States.{hears, isCompleted}
 use Rattle.fsm.specs.Polling.{polled}
 use Rattle.fsm.specs.Calls.{tookRx}
@@ -30,7 +30,7 @@ use Rattle.station_theorems.specs.Calls.{Call, tick, start-tx, start-answer, po
 use Rattle.station_theorems.specs.Ticks.{IsIdle, drives, highsRunning}
 use Rattle.frames.specs.Sends.{Start, by-start-answer, startedBy, takenIn, idleAt}
 use Rattle.frames.specs.ReadAs.{IsReady, HasFrame}
-use Rattle.frames.specs.Hosts.{Host, heardAmid, aloneAmid, Each, keepsTx, keepsRx, keepsCapture, LetsSend, LetsHear}
+use Rattle.frames.specs.Hosts.{Host, afterLevelsAmid, aloneAmid, Each, keepsTx, keepsRx, keepsCapture, LetsSend, LetsHear}
 use Rattle.frames.specs.Amid.{SentAmid}
 use Rattle.frames.proofs.Waving.{lastLow}
 use Rattle.frames.proofs.Sending.{idle-may, frame-to-wave-amid}
@@ -121,7 +121,7 @@ module _ (hb : HalfBitBuffer) where
 
   -- what a station makes of the wave of a byte of 8 bits
   abbrev Hears : ℕ → DaliBitbangPhy → Type 0
-  Hears byte s = let frame = bits-8 byte in HasFrame frame (heardAmid (curious (frameBits frame)) (lastLow (frameBits frame) + 17) (levelAt (frameBits frame)) s)
+  Hears byte s = let frame = bits-8 byte in HasFrame frame (afterLevelsAmid (curious (frameBits frame)) (lastLow (frameBits frame) + 17) (levelAt (frameBits frame)) s)
 
   hears-amid : (byte : ℕ) → byte < 256 → (s : DaliBitbangPhy) → Reached s → IsIdle s → Hears byte s
   hears-amid byte h s reached idle =
@@ -147,7 +147,7 @@ all-reached [] s reached = reached
 all-reached (c ∷ cs) s reached = all-reached cs (after c s) (called c reached)
 
 holds-noise : let s = afterAll noise newStation in IsIdle s × IsReady s
-unfolding noise times afterAll after newStation newCore tickOf actOf heardOf idled idleTick silent fell entered sampled highRun rxTick wentOn filled notified finished tookRx isCompleted pick
+unfolding noise times afterAll after newStation newCore tickOf tickIn runsCounted idled idleTick silent fell entered sampled highRun rxTick wentOn filled notified finished tookRx isCompleted pick
 holds-noise = (refl, refl)
 
 pub hears-after-noise : (hb : HalfBitBuffer) (byte : ℕ) → byte < 256 → Hears hb byte (afterAll noise newStation)

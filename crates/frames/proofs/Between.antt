@@ -17,9 +17,9 @@ use Rattle.machine.specs.States.{isIdle, hears, isTx}
 use Rattle.fsm.specs.Polling.{polled}
 use Rattle.fsm.specs.Calls.{withPolicy, tookIdle, hasEvent, acknowledged, tookRx}
 use Rattle.station_theorems.specs.Calls.{Call, tick, start-tx, start-answer, poll, take-idle, take-rx, acknowledge, policy, after, afterAll, isBetween}
-use Rattle.station_theorems.specs.Ticks.{IsSending, drives, heard, alone}
+use Rattle.station_theorems.specs.Ticks.{IsSending, drives, afterLevels, alone}
 use Rattle.station_theorems.proofs.Between.{Same, itself, then, between-same, tx-refused, answer-refused, refused-keeps}
-use Rattle.frames.specs.Hosts.{heardAmid, aloneAmid, Each, keepsTx, keepsRx, keepsCapture}
+use Rattle.frames.specs.Hosts.{afterLevelsAmid, aloneAmid, Each, keepsTx, keepsRx, keepsCapture}
 use Rattle.frames.specs.Amid.{noCalls, NoCalls}
 
 -- no clash and no yield is to be told
@@ -152,8 +152,8 @@ unfolding aloneAmid alone afterAll
 alone-same zero s = refl
 alone-same (suc n) s = ap (λ before. tickOf before (drives before)) (alone-same n s)
 
-heard-same : (n : ℕ) (level : ℕ → Bool) (s : DaliBitbangPhy) → heardAmid noCalls n level s ≡ heard n level s
-unfolding heardAmid heard afterAll
+heard-same : (n : ℕ) (level : ℕ → Bool) (s : DaliBitbangPhy) → afterLevelsAmid noCalls n level s ≡ afterLevels n level s
+unfolding afterLevelsAmid afterLevels afterAll
 heard-same zero level s = refl
 heard-same (suc n) level s = ap (λ before. tickOf before (level n)) (heard-same n level s)
 

@@ -11,7 +11,7 @@ use Rattle.laws.proofs.Picked.{cases}
 use Rattle.lengths.specs.declared.BitLengths.{BitLengths}
 use Rattle.lengths.specs.Lengths.{withLength, withLengths, setOf, holds, sniffedLengths, backwardLengths}
 use Rattle.window.specs.declared.PhaseDecode.{PhaseDecode}
-use Rattle.window.specs.Phase.{bits, decodeOf}
+use Rattle.window.specs.Phase.{weighed, decodeOf}
 use Rattle.search.specs.declared.SearchAnswer.{SearchAnswer}
 use Rattle.search.specs.declared.Found.the-variants.{Decode}
 use Rattle.event.specs.declared.IsrDecode.the-variants.{NotDecoded}
@@ -52,7 +52,7 @@ fresh s =
     cases P (hasEvent s) (λ _. refl) (λ _. refl)
 
 abbrev decode : Frame → PhaseDecode
-decode frame = decodeOf (pos 0) (bits (frameWeights (frameBits frame)))
+decode frame = decodeOf (pos 0) (weighed (frameWeights (frameBits frame)))
 
 module _ (ev : RxCompletedEvent) where
   searched : (frame : Frame) → FoundInOneStep (frameBits frame) ev → (preferred : BitLengths) → holds preferred (length (frameBits frame)) ≡ true

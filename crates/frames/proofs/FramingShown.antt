@@ -10,7 +10,7 @@ use Rattle.laws.specs.Tabulate.{tabulate}
 use Rattle.laws.proofs.Tabulated.{length-tabulate}
 use Rattle.lengths.specs.declared.BitLengths.{BitLengths}
 use Rattle.lengths.specs.Lengths.{withLength, withLengths, setOf, holds}
-use Rattle.window.specs.Phase.{bits, bitsOf}
+use Rattle.window.specs.Phase.{weighed, bitsOf}
 use Rattle.search.specs.declared.SearchAnswer.{SearchAnswer}
 use Rattle.search.specs.Search.{newOf, runOf}
 use Rattle.halfbits.specs.Frame.{Frame, bits-8, bytesOf, frameBits, AreBytes}
@@ -19,7 +19,7 @@ use Rattle.fsm.specs.declared.DaliBitbangPhy.{DaliBitbangPhy}
 use Rattle.fsm.specs.Station.{newStation}
 use Rattle.station_theorems.specs.Calls.{Reached, new, called}
 use Rattle.station_theorems.specs.Calls as call
-use Rattle.station_theorems.specs.Ticks.{IsIdle, heard}
+use Rattle.station_theorems.specs.Ticks.{IsIdle, afterLevels}
 use Rattle.frames.specs.NextFrame.{afterSending}
 use Rattle.frames.specs.ReadAs.{Whole, IsReady, taken, windowIn, frameWeights, ReadAs}
 use Rattle.frames.specs.OneFrame.{OneWave}
@@ -35,7 +35,7 @@ heard-whole frame = let full = sixteen frame in omega arith
 
 -- what a station makes of a frame's wave, and as many high ticks as it takes
 abbrev Hears : Frame → DaliBitbangPhy → Type 0
-Hears frame s = let after = heard (lastLow (frameBits frame) + 17) (levelAt (frameBits frame)) s in IsIdle after × IsReady after × ReadAs frame (taken after)
+Hears frame s = let after = afterLevels (lastLow (frameBits frame) + 17) (levelAt (frameBits frame)) s in IsIdle after × IsReady after × ReadAs frame (taken after)
 
 hears : (frame : Frame) → AreBytes (bytesOf frame) → (s : DaliBitbangPhy) → Reached s → IsIdle s → Hears frame s
 hears frame are s reached idle = wave-to-frame frame are s reached idle (lastLow (frameBits frame) + 17) (heard-whole (frameBits frame))
@@ -67,8 +67,8 @@ holds-20 = refl
 
 pub twenty-bits-found : (bit : ℕ → Bool)
     → let frame = tabulate 20 bit in
-    let after = heard (lastLow frame + 17) (levelAt frame) newStation in
-    (runOf (newOf twenty) (windowIn (taken after)) .steps ≡ 1) × (bitsOf (windowIn (taken after)) 20 (pos 0) ≡ bits (frameWeights frame))
+    let after = afterLevels (lastLow frame + 17) (levelAt frame) newStation in
+    (runOf (newOf twenty) (windowIn (taken after)) .steps ≡ 1) × (bitsOf (windowIn (taken after)) 20 (pos 0) ≡ weighed (frameWeights frame))
 twenty-bits-found bit =
     let frame = tabulate 20 bit in
     let many = length-tabulate 20 bit in

@@ -20,7 +20,7 @@ use Rattle.station_theorems.proofs.Holding.{invariants}
 use Rattle.station_theorems.specs.Ticks.{IsIdle, highsRunning}
 use Rattle.station_theorems.proofs.Between.{Same}
 use Rattle.frames.specs.ReadAs.{Whole, FitsCapture}
-use Rattle.frames.specs.Hosts.{Host, heardAmid, LetsHear}
+use Rattle.frames.specs.Hosts.{Host, afterLevelsAmid, LetsHear}
 use Rattle.station_theorems.proofs.Capturing.{Stored, Hearing, hearing-kept, Captured, hearing-next, captured-next, captured-stays, first-low, second-low}
 use Rattle.frames.proofs.Between.{markOf, all-kept, all-in-rx, all-between, all-marks}
 use Rattle.frames.proofs.Waving.{lastLow, after-last, short, sixteen, runs-on, lowIn-bounds}
@@ -120,24 +120,24 @@ module _ (frame : List Bool) (fits : FitsCapture frame) where
     level = levelAt frame
 
     abbrev now : ℕ → DaliBitbangPhy
-    now n = heardAmid host n level s
+    now n = afterLevelsAmid host n level s
 
     -- ---- its calls
     first-calls : Same s (now 0)
-    unfolding heardAmid
+    unfolding afterLevelsAmid
     first-calls = all-kept (host 0) s (lets .idle 0 (omega arith))
 
     second-calls : Same (tickOf (now 0) (level 0)) (now 1)
-    unfolding heardAmid
+    unfolding afterLevelsAmid
     second-calls = all-kept (host 1) (tickOf (now 0) (level 0)) (lets .idle 1 (omega arith))
 
     calls-in-rx : (n : ℕ) → tickOf (now n) (level n) .core .bus .«bus_state» ≡ bus.Rx → Same (tickOf (now n) (level n)) (now (suc n))
-    unfolding heardAmid
+    unfolding afterLevelsAmid
     calls-in-rx n in-rx = all-in-rx (host (suc n)) (tickOf (now n) (level n)) in-rx (lets .in-rx (suc n))
 
     last-calls : (n : ℕ) → lastLow frame + 17 ≤ suc n
         → Same (tickOf (now n) (level n)) (now (suc n)) × (markOf (now (suc n)) ≡ markOf (tickOf (now n) (level n)))
-    unfolding heardAmid
+    unfolding afterLevelsAmid
     last-calls n h =
         let each = lets .ready (suc n) (runs-on frame (suc n) h) in
         (all-kept (host (suc n)) (tickOf (now n) (level n)) (all-between (host (suc n)) each), all-marks (host (suc n)) (tickOf (now n) (level n)) each)
@@ -198,7 +198,7 @@ module _ (frame : List Bool) (fits : FitsCapture frame) where
   long-enough ticks whole (no late) = omega (arith, late)
 
   pub catches : (s : DaliBitbangPhy) → Reached s → IsIdle s → (host : Host) → LetsHear frame host → (ticks : ℕ) → Whole frame ticks
-      → Caught frame (heardAmid host ticks (levelAt frame) s)
+      → Caught frame (afterLevelsAmid host ticks (levelAt frame) s)
   catches s reached idle host lets ticks whole =
       let holds = invariants s reached in
       either-way host lets s idle ticks (long-enough ticks whole (decLt ticks (lastLow frame + 17))) (holds .debounce idle) (decLt (s .core .bus .«rx_debounce») 1)

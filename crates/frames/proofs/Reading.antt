@@ -13,7 +13,7 @@ use Rattle.lengths.specs.declared.BitLengths.{BitLengths}
 use Rattle.lengths.specs.Lengths.{holds}
 use Rattle.window.specs.declared.SampleWindow.{SampleWindow}
 use Rattle.window.specs.Window.{windowOf, sampleBits, tickAt}
-use Rattle.window.specs.Phase.{bits, bitsOf, lengthOf, decodeOf, phaseOf}
+use Rattle.window.specs.Phase.{weighed, bitsOf, lengthOf, decodeOf, phaseOf}
 use Rattle.search.specs.declared.Found.the-variants.{Decode}
 use Rattle.search.specs.Search.{newOf, runOf, acceptedOf}
 use Rattle.search.specs.Steps.{searchOf}
@@ -46,8 +46,8 @@ pub length-is : (frame : List Bool) → 1 ≤ length frame → lengthOf (frameWe
 unfolding lengthOf frameWeights
 length-is frame h = rw (length-weights (true ∷ frame)) (simp (on-true (lt-ltb 1 (suc (length frame)) (omega arith))) (omega arith))
 
-found : (frame : List Bool) (w : SampleWindow) → bitsOf w 32 (pos 0) ≡ bits (frameWeights frame) → (preferred : BitLengths) → 3 ≤ length frame
-    → holds preferred (length frame) ≡ true → runOf (newOf preferred) w ≡ record { found = Decode (decodeOf (pos 0) (bits (frameWeights frame))); steps = 1 }
+found : (frame : List Bool) (w : SampleWindow) → bitsOf w 32 (pos 0) ≡ weighed (frameWeights frame) → (preferred : BitLengths) → 3 ≤ length frame
+    → holds preferred (length frame) ≡ true → runOf (newOf preferred) w ≡ record { found = Decode (decodeOf (pos 0) (weighed (frameWeights frame))); steps = 1 }
 unfolding searchOf phaseOf acceptedOf decodeOf
 found frame w read preferred h held =
     let len = length-is frame (omega arith) in

@@ -18,7 +18,7 @@ use Rattle.halfbits.specs.Encoding.{isBitCount, frameOf, encodedOf}
 use Rattle.halfbits.proofs.Levels.{later-level, half-bits-are-the-wave}
 use Rattle.halfbits.proofs.Encodes.{few, as-many}
 use Rattle.laws.proofs.Joined.{joins}
-use Rattle.machine.specs.Sending.{storeOf as kept}
+use Rattle.machine.specs.Sending.{txHbOf}
 use Rattle.machine.specs.declared.BusState.{BusState}
 use Rattle.machine.specs.declared.BusState.the-variants as bus
 use Rattle.machine.specs.declared.CollisionPolicy.{CollisionPolicy}
@@ -193,7 +193,7 @@ accepted by s hb may some most = go by may
 
 loaded-sends : (bits : List Bool) (s : DaliBitbangPhy) (answer : Bool) → drives s ≡ high
     → Sender bits (s .core .«collision_policy») 3 0 0 high (loadedWith s (bufferOf bits) answer)
-unfolding loadedWith loaded bufferOf kept
+unfolding loadedWith loaded bufferOf txHbOf
 loaded-sends bits s answer line = record {
   state = refl;
   store = refl;
@@ -267,12 +267,12 @@ alone-reached zero s reached = reached
 alone-reached (suc n) s reached = called (call.tick (drives (alone n s))) (alone-reached n s reached)
 
 -- Idle again after one
-after-one : (one : Sending) → FitsBuffer (one .bits) → (s : DaliBitbangPhy) → Reached s → MayStart (one .by) s
-    → let s′ = alone (idleAt (length (one .bits))) (startedBy (one .by) s (bufferOf (one .bits)) .station) in Reached s′ × IsIdle s′
+after-one : (one : Sending) → FitsBuffer (one .row) → (s : DaliBitbangPhy) → Reached s → MayStart (one .by) s
+    → let s′ = alone (idleAt (length (one .row))) (startedBy (one .by) s (bufferOf (one .row)) .station) in Reached s′ × IsIdle s′
 after-one one fits s reached may =
-    let ticks = idleAt (length (one .bits)) in (
-      alone-reached ticks _ (started-reached (one .by) s (bufferOf (one .bits)) reached),
-      bits-to-wave (one .bits) fits s reached (one .by) may .1 .idle ticks (omega arith),
+    let ticks = idleAt (length (one .row)) in (
+      alone-reached ticks _ (started-reached (one .by) s (bufferOf (one .row)) reached),
+      bits-to-wave (one .row) fits s reached (one .by) may .1 .idle ticks (omega arith),
     )
 
 -- and after each
@@ -285,8 +285,8 @@ ready (one ∷ more) fit s reached idle =
 
 pub next-frame-to-wave : NextFrameToWave
 unfolding AllFit afterSending firstOf
-next-frame-to-wave [] fit last fits s reached may = bits-to-wave (last .bits) fits s reached (last .by) may
+next-frame-to-wave [] fit last fits s reached may = bits-to-wave (last .row) fits s reached (last .by) may
 next-frame-to-wave (one ∷ more) fit last fits s reached may =
     let (reached′, idle′) = after-one one (fit .0) s reached may in
     let (reached″, idle″) = ready more (fit .1) _ reached′ idle′ in
-    bits-to-wave (last .bits) fits _ reached″ (last .by) (idle-may (last .by) (afterSending (one ∷ more) s) idle″)
+    bits-to-wave (last .row) fits _ reached″ (last .by) (idle-may (last .by) (afterSending (one ∷ more) s) idle″)

@@ -13,14 +13,14 @@ use Rattle.halfbits.specs.Wave.{high, low, bitWave, bitWaves, waveOf, levelAt}
 use Rattle.halfbits.specs.HalfBits.{bufferOf}
 use Rattle.halfbits.specs.Encoding.{isBitCount, frameOf, encodedOf}
 use Rattle.machine.specs.declared.BusState.the-variants as bus
-use Rattle.machine.specs.Runs.{heardOf}
+use Rattle.machine.specs.Runs.{runsCounted}
 use Rattle.fsm.specs.Rx.{highRun, sampled, filled, rxTick, wentOn}
 use Rattle.machine.specs.Idle.{entered, idleTick, silent, fell}
 use Rattle.fsm.specs.declared.DaliBitbangPhy.{DaliBitbangPhy}
 use Rattle.fsm.specs.declared.Started.{Started}
 use Rattle.fsm.specs.declared.StartAnswer.the-variants as start
 use Rattle.fsm.specs.Station.{newCore, newStation}
-use Rattle.fsm.specs.Ticking.{actOf, tickOf}
+use Rattle.fsm.specs.Ticking.{tickIn, tickOf}
 use Rattle.machine.specs.States.{isIdle, hears}
 use Rattle.fsm.specs.Starting.{startTx}
 use Rattle.station_theorems.specs.Calls.{after, Reached, new, called}
@@ -55,7 +55,7 @@ abbrev pub debouncing : DaliBitbangPhy
 debouncing = after (call.tick low) newStation
 
 pub it-debounces : IsIdle debouncing × (debouncing .core .bus .«rx_debounce» ≡ 1)
-unfolding after tickOf actOf pick idleTick silent fell heardOf newStation newCore
+unfolding after tickOf tickIn pick idleTick silent fell runsCounted newStation newCore
 it-debounces = (refl, refl)
 
 -- 16 bits, whatever they are
@@ -69,7 +69,7 @@ abbrev pub receiving : DaliBitbangPhy
 receiving = after (call.tick high) (after (call.tick low) (after (call.tick low) (after (call.tick low) newStation)))
 
 pub it-receives : receiving .core .bus .«bus_state» ≡ bus.Rx
-unfolding after tickOf actOf pick idleTick silent fell entered heardOf sampled highRun rxTick wentOn filled newStation newCore
+unfolding after tickOf tickIn pick idleTick silent fell entered runsCounted sampled highRun rxTick wentOn filled newStation newCore
 it-receives = refl
 
 pub receiving-reached : Reached receiving
@@ -87,7 +87,7 @@ receiving-refuses hb = ap (λ (r : Started). r .answer) (on-false (ap isIdle it-
 
 -- ---- one that has answered 8 bits and sent 16
 abbrev pub before : List Sending
-before = record { by = by-start-answer; bits = frameBits (bits-8 255) } ∷ record { by = by-start-tx; bits = frameBits (bits-16 254 5) } ∷ []
+before = record { by = by-start-answer; row = frameBits (bits-8 255) } ∷ record { by = by-start-tx; row = frameBits (bits-16 254 5) } ∷ []
 
 pub before-fit : AllFit before
 unfolding AllFit bytesOf bitsOf tabulate
@@ -98,7 +98,7 @@ pub sends-again : (first second third : ℕ) (by : Start)
     → let bits = frameBits (bits-24 first second third) in Sent by (afterSending before newStation) (bufferOf bits) bits
 unfolding bytesOf bitsOf tabulate firstOf
 sends-again first second third by =
-    next-frame-to-wave before before-fit (record { by = by; bits = frameBits (bits-24 first second third) }) (omega arith) newStation new
+    next-frame-to-wave before before-fit (record { by = by; row = frameBits (bits-24 first second third) }) (omega arith) newStation new
     (idle-may by-start-answer newStation new-idle)
 
 -- The first of them may also have been an answer in the middle of a capture.
@@ -106,5 +106,5 @@ pub sends-after-answering : (first second third : ℕ) (by : Start)
     → let bits = frameBits (bits-24 first second third) in Sent by (afterSending before receiving) (bufferOf bits) bits
 unfolding bytesOf bitsOf tabulate firstOf takenIn hears
 sends-after-answering first second third by =
-    next-frame-to-wave before before-fit (record { by = by; bits = frameBits (bits-24 first second third) }) (omega arith) receiving receiving-reached
+    next-frame-to-wave before before-fit (record { by = by; row = frameBits (bits-24 first second third) }) (omega arith) receiving receiving-reached
     (ap hears it-receives)

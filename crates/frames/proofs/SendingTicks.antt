@@ -20,13 +20,13 @@ use Rattle.laws.proofs.Joined.{and-off}
 use Rattle.machine.proofs.Store.{releases-loaded}
 use Rattle.machine.specs.declared.CollisionPolicy.{CollisionPolicy}
 use Rattle.machine.specs.declared.Tx.{Tx}
-use Rattle.machine.specs.Runs.{heardOf}
+use Rattle.machine.specs.Runs.{runsCounted}
 use Rattle.machine.specs.BecomingIdle.{idled}
 use Rattle.machine.specs.Idle.{idleTick, silent, fell}
-use Rattle.machine.specs.Sending.{Step, Arm, End, Hold, Drive, clashOf, releasesAt, txStep, armed, held, driven, stepped, txTick, halfBitIn, storeOf as kept, watchesOf}
+use Rattle.machine.specs.Sending.{Step, Arm, End, Hold, Drive, clashOf, releasesAt, txStep, armed, held, driven, afterStep, txTick, halfBitIn, txHbOf, watchesOf}
 use Rattle.fsm.specs.declared.DaliBitbangPhy.{DaliBitbangPhy}
 use Rattle.fsm.specs.Station.{withCore}
-use Rattle.fsm.specs.Ticking.{actOf, tickOf}
+use Rattle.fsm.specs.Ticking.{tickIn, tickOf}
 use Rattle.station_theorems.specs.Ticks.{drives, IsIdle, IsSending}
 use Rattle.station_theorems.specs.Calls.{Call, afterAll, isBetween}
 use Rattle.station_theorems.proofs.Between.{Same}
@@ -52,7 +52,7 @@ read-back bits j h =
     ∙ is-zero (pulls bits j)
     ∙ not-not (levelAt bits (4 * j))
 
-pub reads-wave : (bits : List Bool) (j : ℕ) → j < 56 → releasesAt (kept (bufferOf bits)) j ≡ levelAt bits (4 * j)
+pub reads-wave : (bits : List Bool) (j : ℕ) → j < 56 → releasesAt (txHbOf (bufferOf bits)) j ≡ levelAt bits (4 * j)
 unfolding bufferOf
 reads-wave bits j h = releases-loaded (bufferOf bits) j (omega arith) ∙ read-back bits j h
 
@@ -65,7 +65,7 @@ next s = tickOf s (drives s)
 -- and this is the level that it drives.
 pub record Sender (bits : List Bool) (policy : CollisionPolicy) (ticks half-bits left : ℕ) (level : Bool) (s : DaliBitbangPhy) : Type 0 where
   pub state : IsSending s
-  pub store : s .«tx_hb» ≡ kept (bufferOf bits)
+  pub store : s .«tx_hb» ≡ txHbOf (bufferOf bits)
   pub loads : s .«tx_hb» .«tx_hb_len» ≡ halfBitsOf (length bits)
   pub watch : s .core .«collision_policy» ≡ policy
   pub arms : s .core .tx .«tx_armed» ≡ ticks
@@ -84,8 +84,8 @@ abbrev pub clashes : DaliBitbangPhy → Bool → Bool
 clashes s sampled = clashOf (s .core .tx) (s .core .«collision_policy») (s .«tx_hb» .«tx_hb_len») sampled
 
 pub by-rule : (s : DaliBitbangPhy) (sampled : Bool) {rule : Step} → IsSending s → ruleOf s sampled ≡ rule
-    → tickOf s sampled ≡ withCore s (stepped rule (heardOf (s .core) sampled))
-unfolding tickOf actOf pick txTick heardOf
+    → tickOf s sampled ≡ withCore s (afterStep rule (runsCounted (s .core) sampled))
+unfolding tickOf tickIn pick txTick runsCounted
 by-rule s sampled e f = rw (e, f)
 
 -- whatever is sampled on a half-bit that is pulled, it is no clash
@@ -110,7 +110,7 @@ module _ {bits : List Bool} {policy : CollisionPolicy} where
   own-level {s = s} a = no-clash (s .core .tx) _ _ (drives s) (λ e. a .pulled (sym (a .line) ∙ e))
 
   pub arm : {ticks : ℕ} {s : DaliBitbangPhy} → Sender bits policy (suc ticks) 0 0 high s → Sender bits policy ticks 0 0 high (next s)
-  unfolding stepped armed heardOf txStep
+  unfolding afterStep armed runsCounted txStep
   arm {ticks} {s} a =
       let rule : ruleOf s (drives s) ≡ Arm = on-true (ap (λ n. not (eqb n 0)) (a .arms) ∙ ap not (some-left ticks)) _ _ ∙ on-false (and-off (ap not (a .line)) _) _ _ in
       rw (by-rule s (drives s) (a .state) rule)
@@ -141,7 +141,7 @@ module _ {bits : List Bool} {policy : CollisionPolicy} where
         ∙ rw (a .spaces, a .begun) (ap (λ rule. pick (not (eqb left 0)) Hold rule) drives-wave)
 
     pub hold : {left : ℕ} → Sender bits policy 0 j (suc left) level s → Sender bits policy 0 j left level (tickOf s sampled)
-    unfolding stepped held heardOf
+    unfolding afterStep held runsCounted
     hold {left} a =
         rw (by-rule s sampled (a .state) (holds-or-drives a ∙ on-true (ap not (some-left left)) _ _))
         (record {
@@ -159,7 +159,7 @@ module _ {bits : List Bool} {policy : CollisionPolicy} where
         })
 
     pub drive : Sender bits policy 0 j 0 level s → Sender bits policy 0 (j + 1) 3 (levelAt bits (4 * j)) (tickOf s sampled)
-    unfolding stepped driven heardOf
+    unfolding afterStep driven runsCounted
     drive a =
         rw (by-rule s sampled (a .state) (holds-or-drives a ∙ on-false refl _ _))
         (record {
@@ -183,14 +183,14 @@ Rests s = IsIdle s × (drives s ≡ high) × Clear s
 -- every half-bit is begun
 pub finish : {bits : List Bool} {policy : CollisionPolicy} {left : ℕ} {level : Bool} {s : DaliBitbangPhy}
     → Sender bits policy 0 (halfBitsOf (length bits)) left level s → Rests (next s)
-unfolding stepped idled txStep heardOf
+unfolding afterStep idled txStep runsCounted
 finish {s = s} a =
     let all = le-leb (s .«tx_hb» .«tx_hb_len») (s .core .tx .«tx_hb_cnt») (omega arith) in
     let rule : ruleOf s (drives s) ≡ End = on-false (ap (λ n. not (eqb n 0)) (a .arms)) _ _ ∙ on-true all _ _ in
     rw (by-rule s (drives s) (a .state) rule) (refl, refl, a .clear)
 
 pub rest : (s : DaliBitbangPhy) → Rests s → Rests (next s)
-unfolding tickOf actOf pick idleTick silent fell heardOf
+unfolding tickOf tickIn pick idleTick silent fell runsCounted
 rest s r = rw (r .0, r .1) (refl, refl, r .2)
 
 -- ---- the calls of a host

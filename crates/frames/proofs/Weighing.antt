@@ -20,7 +20,7 @@ use Rattle.laws.proofs.Digits.{packed-same}
 use Rattle.weight.specs.Weight.{bitWeight, halfWeight, folded, weightOf}
 use Rattle.window.specs.declared.SampleWindow.{SampleWindow}
 use Rattle.window.specs.Window.{sampleBits, tickAt, peekAt}
-use Rattle.window.specs.Phase.{peekOf, weightAround, strideOf, strideAround, bits, bitsFrom, bitsOf}
+use Rattle.window.specs.Phase.{peekOf, weightAround, strideOf, strideAround, weighed, bitsFrom, bitsOf}
 use Rattle.window.proofs.Turns.{at-end, at-most}
 use Rattle.halfbits.specs.Wave.{high, bitWave, levelAt}
 use Rattle.halfbits.proofs.Levels.{bitOf, eight, in-bit, later-level}
@@ -85,7 +85,7 @@ module _ (w : SampleWindow) (level : ℕ → Bool) (shown : (p : ℕ) → p < 8 
 
     -- one bit is read, and the others follow
     pub one-bit : (weight stride : ℕ) → readOf levels ≡ goesOn weight stride → (most left len : ℕ) (more : List ℕ) → p + 2 < sampleBits w → len ≤ most
-        → bitsFrom left w most (pos 0) (p + 1 + stride) (len + 1) ≡ bits more → bitsFrom (suc left) w most (pos 0) (p + 1) len ≡ bits (weight ∷ more)
+        → bitsFrom left w most (pos 0) (p + 1 + stride) (len + 1) ≡ weighed more → bitsFrom (suc left) w most (pos 0) (p + 1) len ≡ weighed (weight ∷ more)
     unfolding bitsFrom weightAround strideAround
     one-bit weight stride r most left len more inside few rest =
         let early = peek-at 0 (omega arith) (p + 1 - 1) (omega arith) in
@@ -130,7 +130,7 @@ module _ (frame : List Bool) (d : ℕ) (w : SampleWindow) (shown : (p : ℕ) →
           ∙ sym (getD-at (bitWave (bitOf frame k)) (level (p + 9)) [] high j (eight (bitOf frame k) ∙ sym last))
 
   -- behind the last bit the line is idle
-  past : (left p : ℕ) → p ≡ d + 8 * suc (length frame) → bitsFrom left w most (pos 0) p (suc (length frame)) ≡ bits []
+  past : (left p : ℕ) → p ≡ d + 8 * suc (length frame) → bitsFrom left w most (pos 0) p (suc (length frame)) ≡ weighed []
   unfolding bitsFrom packed pick
   past zero p e = refl
   past (suc left) p e = go (decLt (p + 1) (sampleBits w)) (decLt most (suc (length frame)))
@@ -141,14 +141,14 @@ module _ (frame : List Bool) (d : ℕ) (w : SampleWindow) (shown : (p : ℕ) →
           ∙ packed-same 2 8 (λ i. digit level (p + 1 + i)) (λ i. 1)
           (λ i k. ap bit (in-wave (p + 1 + i) (8 * suc (length frame) + (1 + i)) (omega arith) ∙ later-level frame (suc (length frame)) (1 + i) (omega arith)))
 
-      go : Dec (p + 1 < sampleBits w) → Dec (most < suc (length frame)) → bitsFrom (suc left) w most (pos 0) p (suc (length frame)) ≡ bits []
+      go : Dec (p + 1 < sampleBits w) → Dec (most < suc (length frame)) → bitsFrom (suc left) w most (pos 0) p (suc (length frame)) ≡ weighed []
       go (no over) full = at-end w most (pos 0) (suc left) p (suc (length frame)) (omega (arith, over))
       go (yes h) (yes full) = at-most w most (pos 0) (suc left) p (suc (length frame)) h full
       go (yes h) (no more) = simp (on-true (lt-ltb (p + 1) (sampleBits w) h), on-true (le-leb (suc (length frame)) most (omega (arith, more))), idle h)
 
   -- the bits from bit k on, r of them
   walk : (r k left p : ℕ) → r + k ≡ suc (length frame) → r ≤ left → p + 1 ≡ d + 8 * k
-      → bitsFrom left w most (pos 0) (p + 1) k ≡ bits (cleanWeights (drop k (true ∷ frame)))
+      → bitsFrom left w most (pos 0) (p + 1) k ≡ weighed (cleanWeights (drop k (true ∷ frame)))
   unfolding cleanWeights
   walk zero k left p e h at =
       let last : k ≡ suc (length frame) = omega arith in
@@ -174,11 +174,11 @@ module _ (frame : List Bool) (d : ℕ) (w : SampleWindow) (shown : (p : ℕ) →
       go (no behind) (no second) = let e : i ≡ 9 = omega (arith, second) in rw e
 
   -- Its start bit is read from its second tick on; with a tick in front, from its first.
-  pub reads : d ≤ 1 → length frame ≤ 59 → bitsOf w most (pos 0) ≡ bits (frameWeights frame)
+  pub reads : d ≤ 1 → length frame ≤ 59 → bitsOf w most (pos 0) ≡ weighed (frameWeights frame)
   unfolding bitsOf frameWeights cleanWeights
   reads few short = go (decLt d 1)
     where
-      go : Dec (d < 1) → bitsOf w most (pos 0) ≡ bits (frameWeights frame)
+      go : Dec (d < 1) → bitsOf w most (pos 0) ≡ weighed (frameWeights frame)
       go (yes none) =
           one-bit w level shown 0 (bitWave true ++ (level 8 ∷ level 9 ∷ [])) (at-start (omega arith)) (omega arith) 25 7
           (start-bit (level 8) (level 9)) most 72 0 (cleanWeights frame) (omega arith) (omega arith)

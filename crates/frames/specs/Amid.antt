@@ -12,10 +12,10 @@ use Rattle.halfbits.specs.Encoding.{isBitCount, frameOf, encodedOf}
 use Rattle.fsm.specs.declared.DaliBitbangPhy.{DaliBitbangPhy}
 use Rattle.fsm.specs.declared.StartAnswer.the-variants as start
 use Rattle.station_theorems.specs.Calls.{Reached}
-use Rattle.station_theorems.specs.Ticks.{IsIdle, heard, alone}
+use Rattle.station_theorems.specs.Ticks.{IsIdle, afterLevels, alone}
 use Rattle.frames.specs.Sends.{Start, startedBy, MayStart, FitsBuffer, SendsAt}
 use Rattle.frames.specs.ReadAs.{Whole, FitsCapture, HasBits, HasFrame}
-use Rattle.frames.specs.Hosts.{Host, heardAmid, aloneAmid, LetsSend, LetsHear}
+use Rattle.frames.specs.Hosts.{Host, afterLevelsAmid, aloneAmid, LetsSend, LetsHear}
 
 -- Each speaks of the station after a tick and all the calls that follow it. It holds after some of these calls too, since another host
 -- stops there: so every poll among them tells the same, and every take gives the same.
@@ -23,12 +23,12 @@ use Rattle.frames.specs.Hosts.{Host, heardAmid, aloneAmid, LetsSend, Let
 -- ---- from frame to wave
 -- The start is not refused, and the frame is sent amid the host's calls.
 abbrev pub SentAmid : Host → Start → DaliBitbangPhy → HalfBitBuffer → List Bool → Type 0
-SentAmid host by s hb bits = (startedBy by s hb .answer ≡ start.Started) × SendsAt bits (aloneAmid host) (startedBy by s hb .station)
+SentAmid host by s hb row = (startedBy by s hb .answer ≡ start.Started) × SendsAt row (aloneAmid host) (startedBy by s hb .station)
 
 abbrev pub BitsToWaveAmid : Type 0
 BitsToWaveAmid =
-    (bits : List Bool) → FitsBuffer bits → (s : DaliBitbangPhy) → Reached s → (by : Start) → MayStart by s
-    → (host : Host) → LetsSend (length bits) host → SentAmid host by s (bufferOf bits) bits
+    (row : List Bool) → FitsBuffer row → (s : DaliBitbangPhy) → Reached s → (by : Start) → MayStart by s
+    → (host : Host) → LetsSend (length row) host → SentAmid host by s (bufferOf row) row
 
 abbrev pub FrameToWaveAmid : Type 0
 FrameToWaveAmid =
@@ -39,12 +39,12 @@ FrameToWaveAmid =
 abbrev pub WaveToBitsAmid : Type 0
 WaveToBitsAmid =
     (frame : List Bool) → FitsCapture frame → (s : DaliBitbangPhy) → Reached s → IsIdle s → (host : Host) → LetsHear frame host
-    → (ticks : ℕ) → Whole frame ticks → HasBits frame (heardAmid host ticks (levelAt frame) s)
+    → (ticks : ℕ) → Whole frame ticks → HasBits frame (afterLevelsAmid host ticks (levelAt frame) s)
 
 abbrev pub WaveToFrameAmid : Type 0
 WaveToFrameAmid =
     (frame : Frame) → AreBytes (bytesOf frame) → (s : DaliBitbangPhy) → Reached s → IsIdle s → (host : Host) → LetsHear (frameBits frame) host
-    → (ticks : ℕ) → Whole (frameBits frame) ticks → HasFrame frame (heardAmid host ticks (levelAt (frameBits frame)) s)
+    → (ticks : ℕ) → Whole (frameBits frame) ticks → HasFrame frame (afterLevelsAmid host ticks (levelAt (frameBits frame)) s)
 
 -- ---- a host that makes no call
 abbrev pub noCalls : Host
@@ -54,4 +54,4 @@ noCalls ticks = []
 abbrev pub NoCalls : Type 0
 NoCalls =
     (ticks : ℕ) (s : DaliBitbangPhy)
-    → (aloneAmid noCalls ticks s ≡ alone ticks s) × ((level : ℕ → Bool) → heardAmid noCalls ticks level s ≡ heard ticks level s)
+    → (aloneAmid noCalls ticks s ≡ alone ticks s) × ((level : ℕ → Bool) → afterLevelsAmid noCalls ticks level s ≡ afterLevels ticks level s)

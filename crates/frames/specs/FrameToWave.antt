@@ -13,7 +13,7 @@ use Rattle.frames.specs.Sends.{Start, MayStart, FitsBuffer, Sent}
 -- Any station that calls lead to, whatever they were, takes a start where that is allowed and sends any bits that fit.
 abbrev pub BitsToWave : Type 0
 BitsToWave =
-    (bits : List Bool) → FitsBuffer bits → (s : DaliBitbangPhy) → Reached s → (by : Start) → MayStart by s → Sent by s (bufferOf bits) bits
+    (row : List Bool) → FitsBuffer row → (s : DaliBitbangPhy) → Reached s → (by : Start) → MayStart by s → Sent by s (bufferOf row) row
 
 -- And so it sends a frame of 8, 16 or 24 bits that the encoder gave it.
 abbrev pub FrameToWave : Type 0

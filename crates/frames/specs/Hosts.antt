@@ -16,9 +16,9 @@ abbrev pub Host : Type 0
 Host = ℕ → List Call
 
 -- the station after so many ticks, each with the level that it samples, and after the calls that follow each of them
-unfoldable pub heardAmid : Host → ℕ → (ℕ → Bool) → DaliBitbangPhy → DaliBitbangPhy
-heardAmid host zero level s = afterAll (host 0) s
-heardAmid host (suc n) level s = afterAll (host (suc n)) (tickOf (heardAmid host n level s) (level n))
+unfoldable pub afterLevelsAmid : Host → ℕ → (ℕ → Bool) → DaliBitbangPhy → DaliBitbangPhy
+afterLevelsAmid host zero level s = afterAll (host 0) s
+afterLevelsAmid host (suc n) level s = afterAll (host (suc n)) (tickOf (afterLevelsAmid host n level s) (level n))
 
 -- the same where it hears itself alone
 unfoldable pub aloneAmid : Host → ℕ → DaliBitbangPhy → DaliBitbangPhy

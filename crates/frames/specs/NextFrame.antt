@@ -11,17 +11,17 @@ use Rattle.frames.specs.Sends.{Start, startedBy, MayStart, FitsBuffer, i
 -- bits to be sent, and the call that is given them
 pub record Sending : Type 0 where
   pub by : Start
-  pub bits : List Bool
+  pub row : List Bool
 
 unfoldable pub AllFit : List Sending → Type 0
 AllFit [] = Unit {0}
-AllFit (one ∷ more) = FitsBuffer (one .bits) × AllFit more
+AllFit (one ∷ more) = FitsBuffer (one .row) × AllFit more
 
 -- the station that has sent these one after the other, each once it was Idle
 unfoldable pub afterSending : List Sending → DaliBitbangPhy → DaliBitbangPhy
 afterSending [] s = s
 afterSending (one ∷ more) s =
-    afterSending more (alone (idleAt (length (one .bits))) (startedBy (one .by) s (bufferOf (one .bits)) .station))
+    afterSending more (alone (idleAt (length (one .row))) (startedBy (one .by) s (bufferOf (one .row)) .station))
 
 -- the first of these and the next one
 unfoldable pub firstOf : List Sending → Sending → Sending
@@ -31,5 +31,5 @@ firstOf (one ∷ more) next = one
 -- The second frame is sent as the first was, and the hundredth too: once the first start is allowed, so are all others.
 abbrev pub NextFrameToWave : Type 0
 NextFrameToWave =
-    (before : List Sending) → AllFit before → (next : Sending) → FitsBuffer (next .bits)
-    → (s : DaliBitbangPhy) → Reached s → MayStart (firstOf before next .by) s → Sent (next .by) (afterSending before s) (bufferOf (next .bits)) (next .bits)
+    (before : List Sending) → AllFit before → (next : Sending) → FitsBuffer (next .row)
+    → (s : DaliBitbangPhy) → Reached s → MayStart (firstOf before next .by) s → Sent (next .by) (afterSending before s) (bufferOf (next .row)) (next .row)

@@ -9,7 +9,7 @@ use Rattle.lengths.specs.declared.BitLengths.{BitLengths}
 use Rattle.lengths.specs.Lengths.{holds, sniffedLengths, backwardLengths}
 use Rattle.window.specs.declared.SampleWindow.{SampleWindow}
 use Rattle.window.specs.Window.{windowOf}
-use Rattle.window.specs.Phase.{bits, bitsOf, scoreOf, decodeOf}
+use Rattle.window.specs.Phase.{weighed, bitsOf, scoreOf, decodeOf}
 use Rattle.search.specs.declared.Found.the-variants.{Decode}
 use Rattle.search.specs.Search.{newOf, runOf}
 use Rattle.event.specs.declared.RxCompletedEvent.{RxCompletedEvent}
@@ -58,13 +58,13 @@ frameWeights frame = cleanWeights (true ∷ frame)
 
 -- Phase 0 reads the start and the bits of the frame, and no others.
 abbrev pub ReadAtPhase0 : List Bool → RxCompletedEvent → Type 0
-ReadAtPhase0 frame ev = (most : ℕ) → length frame ≤ most → bitsOf (windowIn ev) most (pos 0) ≡ bits (frameWeights frame)
+ReadAtPhase0 frame ev = (most : ℕ) → length frame ≤ most → bitsOf (windowIn ev) most (pos 0) ≡ weighed (frameWeights frame)
 
 -- A search that prefers the frame's length finds that decode in one step.
 abbrev pub FoundInOneStep : List Bool → RxCompletedEvent → Type 0
 FoundInOneStep frame ev =
     (preferred : BitLengths) → 3 ≤ length frame → length frame ≤ 32 → holds preferred (length frame) ≡ true
-    → runOf (newOf preferred) (windowIn ev) ≡ record { found = Decode (decodeOf (pos 0) (bits (frameWeights frame))); steps = 1 }
+    → runOf (newOf preferred) (windowIn ev) ≡ record { found = Decode (decodeOf (pos 0) (weighed (frameWeights frame))); steps = 1 }
 
 -- 25 for each 1 and 24 for each 0, with the start as a 1
 abbrev pub frameScore : List Bool → ℕ

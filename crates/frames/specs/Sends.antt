@@ -37,7 +37,7 @@ MayStart by s = takenIn by (s .core .bus .«bus_state») ≡ true
 
 -- as many bits as a half-bit buffer has room for
 abbrev pub FitsBuffer : List Bool → Type 0
-FitsBuffer bits = halfBitsOf (length bits) ≤ 54
+FitsBuffer row = halfBitsOf (length row) ≤ 54
 
 -- the tick at which the station is Idle again: 89, 153 and 217 for 8, 16 and 24 bits
 abbrev pub idleAt : ℕ → ℕ
@@ -47,19 +47,19 @@ idleAt bits = 8 * bits + 25
 -- A started station drives three high ticks and then, from tick 4 on, the wave and nothing else; tick 0 is the start itself. It is sending
 -- until it is Idle again: a poll tells so, and another start is refused. (`at`: the station after so many ticks, each of which samples the
 -- level that it drives.)
-pub record SendsAt (bits : List Bool) (at : ℕ → DaliBitbangPhy → DaliBitbangPhy) (s : DaliBitbangPhy) : Type 0 where
+pub record SendsAt (row : List Bool) (at : ℕ → DaliBitbangPhy → DaliBitbangPhy) (s : DaliBitbangPhy) : Type 0 where
   pub armed : (tick : ℕ) → tick < 4 → drives (at tick s) ≡ high
-  pub wave : (tick : ℕ) → drives (at (4 + tick) s) ≡ levelAt bits tick
-  pub sending : (tick : ℕ) → tick < idleAt (length bits) → IsSending (at tick s)
-  pub unfinished : (tick : ℕ) → tick < idleAt (length bits) → polled (at tick s) .answer ≡ Transmitting
-  pub busy : (tick : ℕ) → tick < idleAt (length bits) → (by : Start) (hb : HalfBitBuffer) → startedBy by (at tick s) hb .answer ≡ start.Busy
-  pub idle : (tick : ℕ) → idleAt (length bits) ≤ tick → IsIdle (at tick s)
-  pub sent : (tick : ℕ) → idleAt (length bits) ≤ tick → polled (at tick s) .answer ≡ Ok
+  pub wave : (tick : ℕ) → drives (at (4 + tick) s) ≡ levelAt row tick
+  pub sending : (tick : ℕ) → tick < idleAt (length row) → IsSending (at tick s)
+  pub unfinished : (tick : ℕ) → tick < idleAt (length row) → polled (at tick s) .answer ≡ Transmitting
+  pub busy : (tick : ℕ) → tick < idleAt (length row) → (by : Start) (hb : HalfBitBuffer) → startedBy by (at tick s) hb .answer ≡ start.Busy
+  pub idle : (tick : ℕ) → idleAt (length row) ≤ tick → IsIdle (at tick s)
+  pub sent : (tick : ℕ) → idleAt (length row) ≤ tick → polled (at tick s) .answer ≡ Ok
 
 -- hearing itself alone, and with no call after the start
 abbrev pub Sends : List Bool → DaliBitbangPhy → Type 0
-Sends bits s = SendsAt bits alone s
+Sends row s = SendsAt row alone s
 
 -- The start is not refused, and the frame is sent.
 abbrev pub Sent : Start → DaliBitbangPhy → HalfBitBuffer → List Bool → Type 0
-Sent by s hb bits = (startedBy by s hb .answer ≡ start.Started) × Sends bits (startedBy by s hb .station)
+Sent by s hb row = (startedBy by s hb .answer ≡ start.Started) × Sends row (startedBy by s hb .station)

@@ -6,17 +6,17 @@ use Rattle.halfbits.specs.Frame.{Frame, bytesOf, frameBits, AreBytes}
 use Rattle.halfbits.specs.Wave.{levelAt}
 use Rattle.fsm.specs.declared.DaliBitbangPhy.{DaliBitbangPhy}
 use Rattle.station_theorems.specs.Calls.{Reached}
-use Rattle.station_theorems.specs.Ticks.{IsIdle, heard}
+use Rattle.station_theorems.specs.Ticks.{IsIdle, afterLevels}
 use Rattle.frames.specs.ReadAs.{Whole, FitsCapture, HasBits, HasFrame}
 
 -- Any Idle station that calls lead to, debouncing or not, that hears a wave whole has its bits in a capture that is ready.
 abbrev pub WaveToBits : Type 0
 WaveToBits =
     (frame : List Bool) → FitsCapture frame → (s : DaliBitbangPhy) → Reached s → IsIdle s → (ticks : ℕ) → Whole frame ticks
-    → HasBits frame (heard ticks (levelAt frame) s)
+    → HasBits frame (afterLevels ticks (levelAt frame) s)
 
 -- And so the capture of a frame of 8, 16 or 24 bits is read as that frame.
 abbrev pub WaveToFrame : Type 0
 WaveToFrame =
     (frame : Frame) → AreBytes (bytesOf frame) → (s : DaliBitbangPhy) → Reached s → IsIdle s → (ticks : ℕ) → Whole (frameBits frame) ticks
-    → HasFrame frame (heard ticks (levelAt (frameBits frame)) s)
+    → HasFrame frame (afterLevels ticks (levelAt (frameBits frame)) s)

@@ -7,12 +7,12 @@ use Rattle.capture.specs.declared.Samples.{Samples}
 use Rattle.capture.specs.Samples.{withByte}
 use Rattle.machine.specs.Fields.{withRx, withRxState}
 use Rattle.machine.specs.BecomingIdle.{idled}
-use Rattle.machine.specs.Runs.{heardOf}
+use Rattle.machine.specs.Runs.{runsCounted}
 use Rattle.machine.specs.declared.RxState.the-variants.{Completed}
 use Rattle.machine.specs.declared.Rx.{Rx}
 use Rattle.machine.specs.declared.Core.{Core}
 use Rattle.fsm.specs.Rx.{shifted, eighth, filledUp, shiftedIn, sampled, filled, finished, wentOn, rxTick}
-use Rattle.fsm.specs.Ticking.{actOf, tickOf, ticked}
+use Rattle.fsm.specs.Ticking.{tickIn, tickOf, ticked}
 use Rattle.fsm.specs.declared.DaliBitbangPhy.{DaliBitbangPhy}
 use Rattle.fsm.specs.declared.Ticked.{Ticked}
 
@@ -46,7 +46,7 @@ module _ (s : DaliBitbangPhy) (c : Core) (high : Bool) (next : DaliBitbangPhy) w
       let all = on-false f (withByte (s .«rx_data») (min (c .rx .«rx_pos») 63) (shifted (c .rx) high)) (s .«rx_data») in
       rw (is-next, is-r, one, all) refl
 
-pub acted : (s : DaliBitbangPhy) (high : Bool) (c : Core) (next : DaliBitbangPhy) → c ≡ heardOf (s .core) high → next ≡ actOf (c .bus .«bus_state») s c high
+pub acted : (s : DaliBitbangPhy) (high : Bool) (c : Core) (next : DaliBitbangPhy) → c ≡ runsCounted (s .core) high → next ≡ tickIn (c .bus .«bus_state») s c high
     → _≡_ {A = Ticked} (record { station = next; «driven_high» = next .core .bus .«driven_high» }) (ticked s high)
-unfolding ticked tickOf heardOf
+unfolding ticked tickOf runsCounted
 acted s high c next is-c is-next = rw (is-next, is-c) refl

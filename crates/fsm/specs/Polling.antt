@@ -20,11 +20,11 @@ pollResultNumber Transmitting = 4
 pollResultNumber Yielded = 5
 
 -- what each answer says of the station that is polled
-unfoldable pub Says : TxPollResult → DaliBitbangPhy → Type 0
-Says Yielded s = s .core .told .«tx_yielded» ≡ true
-Says Collision s = (s .core .told .«tx_yielded» ≡ false) × (s .core .told .«tx_collision» ≡ 0 → ⊥)
-Says Transmitting s = (s .core .told .«tx_yielded» ≡ false) × (s .core .told .«tx_collision» ≡ 0) × (isTx (s .core .bus .«bus_state») ≡ true)
-Says Ok s = (s .core .told .«tx_yielded» ≡ false) × (s .core .told .«tx_collision» ≡ 0) × (isTx (s .core .bus .«bus_state») ≡ false)
+unfoldable pub SaysPoll : TxPollResult → DaliBitbangPhy → Type 0
+SaysPoll Yielded s = s .core .told .«tx_yielded» ≡ true
+SaysPoll Collision s = (s .core .told .«tx_yielded» ≡ false) × (s .core .told .«tx_collision» ≡ 0 → ⊥)
+SaysPoll Transmitting s = (s .core .told .«tx_yielded» ≡ false) × (s .core .told .«tx_collision» ≡ 0) × (isTx (s .core .bus .«bus_state») ≡ true)
+SaysPoll Ok s = (s .core .told .«tx_yielded» ≡ false) × (s .core .told .«tx_collision» ≡ 0) × (isTx (s .core .bus .«bus_state») ≡ false)
 
 abbrev pub polledWith : DaliBitbangPhy → TxPollResult → Polled
 polledWith s answer = record { station = s; answer = answer }

@@ -80,7 +80,7 @@ unfoldable pub notified : DaliBitbangPhy → Core → Samples → DaliBitbangPhy
 notified s c samples = withEvent (withRxData (withCore s c) samples) samples (c .rx)
 
 -- ---- a tick
--- A station whose core (`c`) has heard the level, and whose capture has its sample. The sixteenth high running writes 0xFF at the position and ends
+-- A station whose core (`c`) has counted its runs, and whose capture has its sample. The sixteenth high running writes 0xFF at the position and ends
 -- the capture; the samples of a part-filled byte are then in no byte.
 unfoldable pub wentOn : DaliBitbangPhy → Core → Rx → Samples → DaliBitbangPhy
 wentOn s c r samples =

@@ -4,7 +4,7 @@ use mathlib.Core.Bool.{Bool, true, false, not, _&&_}
 use lib.Dec.{eqb, leb}
 use Rattle.laws.specs.Pick.{pick}
 use Rattle.halfbits.specs.declared.HalfBitBuffer.{HalfBitBuffer}
-use Rattle.machine.specs.Sending.{storeOf}
+use Rattle.machine.specs.Sending.{txHbOf}
 use Rattle.machine.specs.Starting.{loaded}
 use Rattle.machine.specs.States.{isIdle, hears}
 use Rattle.fsm.specs.Station.{withCore, withTxHb}
@@ -22,7 +22,7 @@ startedWith s answer = record { station = s; answer = answer }
 
 -- the station that sends the half-bits: its captures stay as they are
 unfoldable pub loadedWith : DaliBitbangPhy → HalfBitBuffer → Bool → DaliBitbangPhy
-loadedWith s hb answer = withTxHb (withCore s (loaded (s .core) answer)) (storeOf hb)
+loadedWith s hb answer = withTxHb (withCore s (loaded (s .core) answer)) (txHbOf hb)
 
 -- refusal 8, with the station untouched, or the start
 unfoldable pub started : DaliBitbangPhy → HalfBitBuffer → Bool → Started

@@ -1,6 +1,6 @@
 -- Document 01, "Machine": a tick. Assumes nothing.
 use mathlib.Core.Bool.{Bool}
-use Rattle.machine.specs.Runs.{heardOf}
+use Rattle.machine.specs.Runs.{runsCounted}
 use Rattle.machine.specs.Idle.{idleTick}
 use Rattle.machine.specs.Sending.{txTick}
 use Rattle.machine.specs.Collision.{collisionTick}
@@ -13,14 +13,14 @@ use Rattle.fsm.specs.declared.DaliBitbangPhy.{DaliBitbangPhy}
 use Rattle.fsm.specs.declared.Ticked.{Ticked}
 
 -- Both run lengths are updated, and then the core (`c`) acts by state. Only Rx writes to a capture.
-unfoldable pub actOf : BusState → DaliBitbangPhy → Core → Bool → DaliBitbangPhy
-actOf bus.Idle s c high = withCore s (idleTick c high)
-actOf bus.Rx s c high = rxTick s c high
-actOf bus.Tx s c high = withCore s (txTick c (s .«tx_hb») high)
-actOf bus.CollisionTx s c high = withCore s (collisionTick c high)
+unfoldable pub tickIn : BusState → DaliBitbangPhy → Core → Bool → DaliBitbangPhy
+tickIn bus.Idle s c high = withCore s (idleTick c high)
+tickIn bus.Rx s c high = rxTick s c high
+tickIn bus.Tx s c high = withCore s (txTick c (s .«tx_hb») high)
+tickIn bus.CollisionTx s c high = withCore s (collisionTick c high)
 
 unfoldable pub tickOf : DaliBitbangPhy → Bool → DaliBitbangPhy
-tickOf s high = actOf (s .core .bus .«bus_state») s (heardOf (s .core) high) high
+tickOf s high = tickIn (s .core .bus .«bus_state») s (runsCounted (s .core) high) high
 
 -- the station, and the level that it then drives: the one before, where the tick sets none
 unfoldable pub ticked : DaliBitbangPhy → Bool → Ticked

@@ -10,10 +10,10 @@ ghost use Rattle.machine.specs.Fields.{withRx, withTold, withRxState};
 ghost use Rattle.fsm.specs.Constants.{publicConstants};
 ghost use Rattle.fsm.specs.Station.{lastEvent, withCore, newCore, newStation};
 ghost use Rattle.fsm.specs.Rx.{shifted, highRun, filledUp, shiftedIn, sampled, finished, notified, wentOn, rxTick};
-ghost use Rattle.fsm.specs.Ticking.{actOf, ticked};
-ghost use Rattle.fsm.specs.Refusals.{numberOf, startNumber};
+ghost use Rattle.fsm.specs.Ticking.{tickIn, ticked};
+ghost use Rattle.fsm.specs.Refusals.{startAnswerNumber, startNumber};
 ghost use Rattle.fsm.specs.Starting.{lengthFits, started, startTx, startAnswer};
-ghost use Rattle.fsm.specs.Polling.{pollResultNumber, Says, polled};
+ghost use Rattle.fsm.specs.Polling.{pollResultNumber, SaysPoll, polled};
 ghost use Rattle.fsm.specs.Calls.{withPolicy, tookIdle, acknowledged, tookRx};
 use capture::Samples;
 pub use event::DALI_RX_SAMPLE_BUF_LEN;
@@ -80,7 +80,7 @@ fn tx_poll_result_number(result: TxPollResult) -> u8
 }
 
 fn start_answer_number(answer: StartAnswer) -> u8
-    ensures { λ r. ⌜ r ≡ numberOf answer ⌝ }
+    ensures { λ r. ⌜ r ≡ startAnswerNumber answer ⌝ }
 {
     match answer {
         StartAnswer::Started => StartAnswer::Started as u8,
@@ -437,16 +437,16 @@ impl DaliBitbangPhy {
     pub fn tick(self, bus_is_high: bool) -> Ticked
         ensures { λ r. ⌜ r ≡ ticked self «bus_is_high» ⌝ }
     {
-        let station = self.act(self.core.heard(bus_is_high), bus_is_high);
+        let station = self.act(self.core.count_runs(bus_is_high), bus_is_high);
         Ticked {
             station,
             driven_high: station.core.bus.driven_high,
         }
     }
 
-    // What a tick does by state, once the core has heard the level.
+    // What a tick does by state, once the core has counted its runs.
     fn act(self, core: Core, bus_is_high: bool) -> DaliBitbangPhy
-        ensures { λ r. ⌜ r ≡ actOf (core .bus .«bus_state») self core «bus_is_high» ⌝ }
+        ensures { λ r. ⌜ r ≡ tickIn (core .bus .«bus_state») self core «bus_is_high» ⌝ }
     {
         let bus = core.bus;
         let bus_state = bus.bus_state;
@@ -460,7 +460,7 @@ impl DaliBitbangPhy {
 
     pub fn start_tx(self, halfbits: HalfBitBuffer) -> Started
         ensures { λ r. ⌜ r ≡ startTx self halfbits ⌝ }
-        ensures { λ r. ⌜ numberOf (r .answer) ≡ startNumber (isIdle (self .core .bus .«bus_state»)) (lengthFits (halfbits .length)) ⌝ }
+        ensures { λ r. ⌜ startAnswerNumber (r .answer) ≡ startNumber (isIdle (self .core .bus .«bus_state»)) (lengthFits (halfbits .length)) ⌝ }
     {
         let bus_state = self.bus_state();
         if bus_state.is_idle() {
@@ -475,7 +475,7 @@ impl DaliBitbangPhy {
     // IEC 62386-101, 9.1.1, Table 17
     pub fn start_answer(self, halfbits: HalfBitBuffer) -> Started
         ensures { λ r. ⌜ r ≡ startAnswer self halfbits ⌝ }
-        ensures { λ r. ⌜ numberOf (r .answer) ≡ startNumber (hears (self .core .bus .«bus_state»)) (lengthFits (halfbits .length)) ⌝ }
+        ensures { λ r. ⌜ startAnswerNumber (r .answer) ≡ startNumber (hears (self .core .bus .«bus_state»)) (lengthFits (halfbits .length)) ⌝ }
     {
         let bus_state = self.bus_state();
         if bus_state.is_idle_or_rx() {
@@ -521,7 +521,7 @@ impl DaliBitbangPhy {
 
     pub fn poll_tx_state(self) -> Polled
         ensures { λ r. ⌜ r ≡ polled self ⌝ }
-        ensures { λ r. ⌜ Says (r .answer) self ⌝ }
+        ensures { λ r. ⌜ SaysPoll (r .answer) self ⌝ }
     {
         let was = self.core.told;
         let rx_state = was.rx_state;

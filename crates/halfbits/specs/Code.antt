@@ -9,7 +9,7 @@ use Rattle.halfbits.specs.HalfBits.{pulls}
 
 -- the store's half-bits as one number, the first on top
 unfoldable pub halfBits : List Bool → ℕ
-halfBits bits = packed 2 56 (λ j. bit (pulls bits j))
+halfBits row = packed 2 56 (λ j. bit (pulls row j))
 
 -- the seven bytes of such a number
 abbrev pub byteIn : ℕ → ℕ → ℕ

@@ -24,10 +24,10 @@ frameOf bits first second third =
 
 -- ---- what is answered
 -- each answer with its number; 0 is no refusal
-unfoldable pub numberOf : EncodeAnswer → ℕ
-numberOf (Length halfBits) = 0
-numberOf BadBitCount = 5
-numberOf ShortBuffer = 6
+unfoldable pub encodeAnswerNumber : EncodeAnswer → ℕ
+encodeAnswerNumber (Length halfBits) = 0
+encodeAnswerNumber BadBitCount = 5
+encodeAnswerNumber ShortBuffer = 6
 
 -- 5 where the bit count is no frame's, else 6 where the buffer has no room for the store: the lower number wins
 unfoldable pub encodeNumber : Bool → Bool → ℕ

@@ -12,20 +12,20 @@ use Rattle.halfbits.specs.Wave.{levelAt}
 
 -- A half-bit is four ticks of the wave. It pulls the line low or releases it.
 unfoldable pub pulls : List Bool → ℕ → Bool
-pulls bits j = not (levelAt bits (4 * j))
+pulls row j = not (levelAt row (4 * j))
 
 -- The four have one level, so the half-bits say the whole wave.
 abbrev pub HalfBitsAreTheWave : Type 0
-HalfBitsAreTheWave = (bits : List Bool) (tick : ℕ) → levelAt bits tick ≡ not (pulls bits (tick / 4))
+HalfBitsAreTheWave = (row : List Bool) (tick : ℕ) → levelAt row tick ≡ not (pulls row (tick / 4))
 
 -- The store: seven bytes, one bit a half-bit, top bit first, where 1 means pull low. Past the last bit everything is released, so what is
 -- left of the store is zero.
 unfoldable pub storeOf : List Bool → List ℕ
-storeOf bits = tabulate 7 (λ i. packed 2 8 (λ j. bit (pulls bits (8 * i + j))))
+storeOf row = tabulate 7 (λ i. packed 2 8 (λ j. bit (pulls row (8 * i + j))))
 
 -- two half-bits for the start and for each bit, and four released ones
 abbrev pub halfBitsOf : ℕ → ℕ
 halfBitsOf bits = 2 * (1 + bits) + 4
 
 unfoldable pub bufferOf : List Bool → HalfBitBuffer
-bufferOf bits = record { «data» = storeOf bits; length = halfBitsOf (length bits) }
+bufferOf row = record { «data» = storeOf row; length = halfBitsOf (length row) }

@@ -26,8 +26,8 @@ bitWaves (b ∷ bs) = bitWave b ++ bitWaves bs
 
 -- A frame begins with a start bit, which is a logical 1.
 unfoldable pub waveOf : List Bool → List Bool
-waveOf bits = bitWaves (true ∷ bits)
+waveOf row = bitWaves (true ∷ row)
 
 -- After the last bit the line stays high.
 unfoldable pub levelAt : List Bool → ℕ → Bool
-levelAt bits tick = getD (waveOf bits) tick high
+levelAt row tick = getD (waveOf row) tick high

@@ -9,7 +9,7 @@ ghost use Rattle.laws.specs.Tabulate.{tabulate};
 ghost use Rattle.halfbits.specs.Constants.{publicConstants};
 ghost use Rattle.halfbits.specs.Frame.{bitAt};
 ghost use Rattle.halfbits.specs.HalfBits.{halfBitsOf};
-ghost use Rattle.halfbits.specs.Encoding.{isBitCount, frameOf, numberOf, encodeNumber, answerOf, writtenTo, emptyBuffer, encodedOf};
+ghost use Rattle.halfbits.specs.Encoding.{isBitCount, frameOf, encodeAnswerNumber, encodeNumber, answerOf, writtenTo, emptyBuffer, encodedOf};
 ghost use Rattle.halfbits.specs.Code.{halfBits, bytesIn};
 
 pub struct HalfBitBuffer {
@@ -47,7 +47,7 @@ impl HalfBitBuffer {
     // A frame of 8, 16 or 24 bits as a station's start takes it. Bytes that it doesn't need are ignored.
     pub fn encode(bits: u8, first: u8, second: u8, third: u8) -> Encoded
         ensures { λ r. ⌜ r ≡ encodedOf bits (frameOf bits first second third) ⌝ }
-        ensures { λ r. ⌜ numberOf (r .answer) ≡ encodeNumber (isBitCount bits) true ⌝ }
+        ensures { λ r. ⌜ encodeAnswerNumber (r .answer) ≡ encodeNumber (isBitCount bits) true ⌝ }
     {
         if !is_bit_count(bits) {
             return Encoded {
@@ -68,7 +68,7 @@ impl HalfBitBuffer {
 // The same half-bits in the first seven bytes of a lent buffer.
 pub fn encode_into(bits: u8, first: u8, second: u8, third: u8, out: &mut [u8]) -> EncodeAnswer
     ensures { λ r. ⌜ r ≡ answerOf bits (length (now (out .entry))) ⌝ }
-    ensures { λ r. ⌜ numberOf r ≡ encodeNumber (isBitCount bits) (leb 7 (length (now (out .entry)))) ⌝ }
+    ensures { λ r. ⌜ encodeAnswerNumber r ≡ encodeNumber (isBitCount bits) (leb 7 (length (now (out .entry)))) ⌝ }
     ensures { λ r. ⌜ now (out .exit) ≡ writtenTo bits (frameOf bits first second third) (now (out .entry)) ⌝ }
 {
     if !is_bit_count(bits) {

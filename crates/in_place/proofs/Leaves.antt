@@ -6,9 +6,9 @@ use Rattle.laws.proofs.Picked.{on-true, on-false}
 use Rattle.capture.specs.declared.Samples.{Samples}
 use Rattle.capture.specs.Samples.{withByte}
 use Rattle.machine.specs.Fields.{withTx, withRuns, withBus, withRx}
-use Rattle.machine.specs.Runs.{heardOf}
+use Rattle.machine.specs.Runs.{runsCounted}
 use Rattle.machine.specs.Idle.{silent, idleTick}
-use Rattle.machine.specs.Sending.{Step, txStep, isHold, stepped, txTick, held}
+use Rattle.machine.specs.Sending.{Step, txStep, isHold, afterStep, txTick, held}
 use Rattle.machine.proofs.Holding.{is-hold}
 use Rattle.machine.specs.Collision.{collisionTick}
 use Rattle.machine.specs.declared.BusState.{BusState}
@@ -19,7 +19,7 @@ use Rattle.fsm.specs.declared.DaliBitbangPhy.{DaliBitbangPhy}
 use Rattle.fsm.specs.declared.Ticked.{Ticked}
 use Rattle.fsm.specs.Station.{withCore, withRxData}
 use Rattle.fsm.specs.Rx.{shifted, eighth, sampled, filled, goesOn, finished, notified, wentOn, rxTick}
-use Rattle.fsm.specs.Ticking.{actOf, ticked}
+use Rattle.fsm.specs.Ticking.{tickIn, ticked}
 use Rattle.fsm.proofs.Ticks.{acted}
 
 -- a station, and the level that it drives
@@ -36,12 +36,12 @@ unfolding held
 holds-tx c = refl
 
 module _ (s : DaliBitbangPhy) (high : Bool) where
-  -- the core that has heard the level
+  -- the core that has counted its runs
   abbrev pub hears : Core
-  hears = heardOf (s .core) high
+  hears = runsCounted (s .core) high
 
   pub hears-runs : hears ≡ withRuns (s .core) (hears .runs)
-  unfolding heardOf
+  unfolding runsCounted
   hears-runs = refl
 
   -- and the station that has it
@@ -51,27 +51,27 @@ module _ (s : DaliBitbangPhy) (high : Bool) where
   abbrev Is : BusState → Type 0
   Is x = hears .bus .«bus_state» ≡ x
 
-  leaves : (x : BusState) → Is x → (t : DaliBitbangPhy) → t ≡ actOf x s hears high → driving t ≡ ticked s high
-  leaves x e t d = acted s high hears t refl (d ∙ ap (λ (y : BusState). actOf y s hears high) (sym e))
+  leaves : (x : BusState) → Is x → (t : DaliBitbangPhy) → t ≡ tickIn x s hears high → driving t ≡ ticked s high
+  leaves x e t d = acted s high hears t refl (d ∙ ap (λ (y : BusState). tickIn y s hears high) (sym e))
 
   pub counts : high ≡ true → Is bus.Idle → driving (withCore s (silent hears)) ≡ ticked s high
-  unfolding actOf idleTick
+  unfolding tickIn idleTick
   counts up e = leaves bus.Idle e _ (ap (withCore s) (sym (on-true up _ _)))
 
   pub falls : high ≡ false → Is bus.Idle → driving (withCore s (idleTick hears false)) ≡ ticked s high
-  unfolding actOf
+  unfolding tickIn
   falls down e = leaves bus.Idle e _ (ap (λ (h : Bool). withCore s (idleTick hears h)) (sym down))
 
   pub holds : Is bus.Tx → isHold (txStep (hears .tx) (hears .«collision_policy») (s .«tx_hb») high) ≡ true → driving (withCore s (held hears)) ≡ ticked s high
-  unfolding actOf txTick stepped
-  holds e more = leaves bus.Tx e _ (ap (λ (x : Step). withCore s (stepped x hears)) (sym (is-hold _ more)))
+  unfolding tickIn txTick afterStep
+  holds e more = leaves bus.Tx e _ (ap (λ (x : Step). withCore s (afterStep x hears)) (sym (is-hold _ more)))
 
   pub sends : Is bus.Tx → driving (withCore s (txTick hears (s .«tx_hb») high)) ≡ ticked s high
-  unfolding actOf
+  unfolding tickIn
   sends e = leaves bus.Tx e _ refl
 
   pub breaks : Is bus.CollisionTx → driving (withCore s (collisionTick hears high)) ≡ ticked s high
-  unfolding actOf
+  unfolding tickIn
   breaks e = leaves bus.CollisionTx e _ refl
 
   -- ---- Rx: where the capture stands after the sample, and what it then is
@@ -107,9 +107,9 @@ module _ (s : DaliBitbangPhy) (high : Bool) where
 
   module _ (e : Is bus.Rx) (bytes : Samples) (same : bytes ≡ dataOf) where
     pub goes-on : goesOn rxOf ≡ true → driving (withCore (withRxData s bytes) (withRx hears rxOf)) ≡ ticked s high
-    unfolding actOf rxTick wentOn
+    unfolding tickIn rxTick wentOn
     goes-on g = leaves bus.Rx e _ (ap (λ (x : Samples). withCore (withRxData s x) (withRx hears rxOf)) same ∙ sym (on-true g _ _))
 
     pub ends : goesOn rxOf ≡ false → driving (captured bytes) ≡ ticked s high
-    unfolding actOf rxTick wentOn notified
+    unfolding tickIn rxTick wentOn notified
     ends g = leaves bus.Rx e _ (ap (λ (x : Samples). notified s (finished hears rxOf) (withEnd x)) same ∙ sym (on-false g _ _))

@@ -13,9 +13,9 @@ pub fn tick(station: &mut DaliBitbangPhy, bus_is_high: bool) -> bool
     ensures { λ r. ⌜ r ≡ ticked (now (station .entry)) «bus_is_high» .«driven_high» ⌝ }
 {
     let old = (*station).core;
-    let heard = old.heard(bus_is_high);
-    (*station).core.runs = heard.runs;
-    let bus = heard.bus;
+    let counted = old.count_runs(bus_is_high);
+    (*station).core.runs = counted.runs;
+    let bus = counted.bus;
     let bus_state = bus.bus_state;
     match bus_state {
         BusState::Idle => {

@@ -18,7 +18,7 @@ use Rattle.fsm.specs.declared.DaliBitbangPhy.{DaliBitbangPhy}
 use Rattle.machine.specs.States.{hears}
 use Rattle.bench_line.specs.declared.BenchLine.{BenchLine}
 use Rattle.bench_line.specs.Line.{stationsOn, stationAt}
-use Rattle.station_theorems.specs.Ticks.{drives, IsIdle, heard, alone}
+use Rattle.station_theorems.specs.Ticks.{drives, IsIdle, afterLevels, alone}
 use Rattle.frames.specs.Sends.{idleAt, Sends}
 use Rattle.frames.specs.ReadAs.{Whole, IsReady, taken, ReadAs}
 use Rattle.frames.proofs.Waving.{lowIn, lowIn-bounds, lastLow, last-falls, after-last, highs-all}
@@ -108,14 +108,14 @@ module _ (l : BenchLine) (reached : ReachedLine l) (frame : Frame) (are : AreByt
   -- four high ticks, and then the wave
   module _ (t n : ℕ) (h : n < stationsOn l) (idle : IsIdle (stationAt l n)) (complete : completeAt bits ≤ 4 + t) where
     abbrev waiting : DaliBitbangPhy
-    waiting = heard 4 (levels l) (stationAt l n)
+    waiting = afterLevels 4 (levels l) (stationAt l n)
 
-    hears-wave : stationAt (ticksOn (4 + t) l) n ≡ heard t (levelAt bits) waiting
+    hears-wave : stationAt (ticksOn (4 + t) l) n ≡ afterLevels t (levelAt bits) waiting
     hears-wave =
         on-line l reached n h (4 + t) ∙ heard-more 4 t (levels l) (stationAt l n)
         ∙ heard-same t (λ i. levels l (4 + i)) (levelAt bits) waiting (λ i p. line-level (4 + t) (4 + i) (omega arith) ∙ wave-level bits i)
 
-    read : let after = heard t (levelAt bits) waiting in IsIdle after × IsReady after × ReadAs frame (taken after)
+    read : let after = afterLevels t (levelAt bits) waiting in IsIdle after × IsReady after × ReadAs frame (taken after)
     read =
         wave-to-frame frame are waiting (heard-reached 4 (levels l) (stationAt l n) (line-invariants l reached .reached n h))
         (quiet 4 (levels l) (stationAt l n) idle (λ i p. line-level (4 + t) i (omega arith) ∙ armed-level bits i p)) t (whole bits t complete)

@@ -11,7 +11,7 @@ use Rattle.machine.specs.States.{hears}
 use Rattle.fsm.specs.Ticking.{tickOf}
 use Rattle.bench_line.specs.declared.BenchLine.{BenchLine}
 use Rattle.bench_line.specs.Line.{stationsOn, stationAt}
-use Rattle.station_theorems.specs.Ticks.{drives, heard, alone}
+use Rattle.station_theorems.specs.Ticks.{drives, afterLevels, alone}
 use Rattle.line_theorems.specs.Reached.{ReachedLine}
 use Rattle.line_theorems.specs.Lines.{LineHolds}
 use Rattle.line_theorems.specs.OnLine.{ticksOn}
@@ -24,21 +24,21 @@ module _ (l : BenchLine) (reached : ReachedLine l) where
   holds-at t = line-invariants (ticksOn t l) (ticks-reached t l reached)
 
   -- the line is high if all that are on it drive high, and low if one drives low
-  pub high-at : (t : ℕ) → ((n : ℕ) → n < stationsOn l → drives (heard t (levels l) (stationAt l n)) ≡ true) → levels l t ≡ true
+  pub high-at : (t : ℕ) → ((n : ℕ) → n < stationsOn l → drives (afterLevels t (levels l) (stationAt l n)) ≡ true) → levels l t ≡ true
   high-at t all =
       left-if-all-high (ticksOn t l) (holds-at t)
       (λ n on. let here : n < stationsOn l = omega (arith, on, same-count t l) in ap (λ (s : DaliBitbangPhy). drives s) (on-line l reached n here t) ∙ all n here)
 
-  pub low-at : (t n : ℕ) → n < stationsOn l → drives (heard t (levels l) (stationAt l n)) ≡ false → levels l t ≡ false
+  pub low-at : (t n : ℕ) → n < stationsOn l → drives (afterLevels t (levels l) (stationAt l n)) ≡ false → levels l t ≡ false
   low-at t n on falls =
       left-if-one-low (ticksOn t l) (holds-at t) n (omega (arith, on, same-count t l)) (ap (λ (s : DaliBitbangPhy). drives s) (on-line l reached n on t) ∙ falls)
 
   -- one that listens leaves it high
-  pub listening : (t n : ℕ) → n < stationsOn l → hears (heard t (levels l) (stationAt l n) .core .bus .«bus_state») ≡ true → drives (heard t (levels l) (stationAt l n)) ≡ true
+  pub listening : (t n : ℕ) → n < stationsOn l → hears (afterLevels t (levels l) (stationAt l n) .core .bus .«bus_state») ≡ true → drives (afterLevels t (levels l) (stationAt l n)) ≡ true
   listening t n on hearing = listener-drives _ (heard-reached t (levels l) (stationAt l n) (line-invariants l reached .reached n on)) hearing
 
   -- and goes on to listen
-  pub still-listening : (t n : ℕ) → hears (stationAt l n .core .bus .«bus_state») ≡ true → hears (heard t (levels l) (stationAt l n) .core .bus .«bus_state») ≡ true
+  pub still-listening : (t n : ℕ) → hears (stationAt l n .core .bus .«bus_state») ≡ true → hears (afterLevels t (levels l) (stationAt l n) .core .bus .«bus_state») ≡ true
   still-listening t n hearing = listens-on t (levels l) (record { hearing = hearing; collisions = refl; marked = refl; yields = refl }) .hearing
 
 -- ---- senders of one level
@@ -52,19 +52,19 @@ module _ (l : BenchLine) (reached : ReachedLine l) (level : ℕ → Bool) (ticks
   abbrev Same : ℕ → Type 0
   Same t = (i : ℕ) → i < t → levels l i ≡ level i
 
-  as-alone : (t : ℕ) → t ≤ ticks → Same t → (s : DaliBitbangPhy) → Drives level ticks s → heard t (levels l) s ≡ alone t s
-  unfolding heard alone
+  as-alone : (t : ℕ) → t ≤ ticks → Same t → (s : DaliBitbangPhy) → Drives level ticks s → afterLevels t (levels l) s ≡ alone t s
+  unfolding afterLevels alone
   as-alone zero h same s f = refl
   as-alone (suc t) h same s f = ap₂ tickOf (as-alone t (omega arith) (λ i p. same i (omega arith)) s f) (same t (omega arith) ∙ sym (f t (omega arith)))
 
   next : (t : ℕ) → t < ticks → Same t → levels l t ≡ level t
   next t h same = go (level t) refl
     where
-      sender : (n : ℕ) → Drives level ticks (stationAt l n) → drives (heard t (levels l) (stationAt l n)) ≡ level t
+      sender : (n : ℕ) → Drives level ticks (stationAt l n) → drives (afterLevels t (levels l) (stationAt l n)) ≡ level t
       sender n f = ap (λ (s : DaliBitbangPhy). drives s) (as-alone t (omega arith) same (stationAt l n) f) ∙ f t h
 
       by-role : (n : ℕ) → n < stationsOn l → level t ≡ true → (hears (stationAt l n .core .bus .«bus_state») ≡ true) ⊎ Drives level ticks (stationAt l n)
-          → drives (heard t (levels l) (stationAt l n)) ≡ true
+          → drives (afterLevels t (levels l) (stationAt l n)) ≡ true
       by-role n p e (inl hearing) = listening l reached t n p (still-listening l reached t n hearing)
       by-role n p e (inr f) = sender n f ∙ e
 
@@ -84,5 +84,5 @@ module _ (l : BenchLine) (reached : ReachedLine l) (level : ℕ → Bool) (ticks
   pub heard-as-one : (t : ℕ) → t < ticks → levels l t ≡ level t
   heard-as-one t h = same-up-to ticks (omega arith) t h
 
-  pub hears-itself : (t : ℕ) → t ≤ ticks → (s : DaliBitbangPhy) → Drives level ticks s → heard t (levels l) s ≡ alone t s
+  pub hears-itself : (t : ℕ) → t ≤ ticks → (s : DaliBitbangPhy) → Drives level ticks s → afterLevels t (levels l) s ≡ alone t s
   hears-itself t h s f = as-alone t h (λ i p. heard-as-one i (omega arith)) s f

@@ -15,16 +15,16 @@ use Rattle.halfbits.specs.Wave.{high, low, levelAt}
 use Rattle.halfbits.specs.HalfBits.{halfBitsOf}
 use Rattle.machine.specs.declared.CollisionPolicy.{CollisionPolicy}
 use Rattle.machine.specs.Fields.{withDrivenHigh, withTxSpCnt}
-use Rattle.machine.specs.Runs.{heardOf}
+use Rattle.machine.specs.Runs.{runsCounted}
 use Rattle.machine.specs.BecomingIdle.{idled}
 use Rattle.machine.specs.Idle.{idleTick, silent, fell}
 use Rattle.machine.specs.Collision.{broke, collisionTick}
-use Rattle.machine.specs.Sending.{Clash, watchesOf, clashOf, txStep, clashed, stepped}
+use Rattle.machine.specs.Sending.{Clash, watchesOf, clashOf, txStep, clashed, afterStep}
 use Rattle.fsm.specs.declared.DaliBitbangPhy.{DaliBitbangPhy}
 use Rattle.fsm.specs.Station.{withCore}
 use Rattle.machine.specs.States.{hears}
-use Rattle.fsm.specs.Ticking.{actOf, tickOf}
-use Rattle.station_theorems.specs.Ticks.{drives, IsIdle, IsSending, heard, IsBreaking}
+use Rattle.fsm.specs.Ticking.{tickIn, tickOf}
+use Rattle.station_theorems.specs.Ticks.{drives, IsIdle, IsSending, afterLevels, IsBreaking}
 use Rattle.frames.specs.Sends.{FitsBuffer}
 use Rattle.frames.proofs.SendingTicks.{Sender, ruleOf, clashes, by-rule, hold, drive, pulled-calm}
 use Rattle.line_theorems.proofs.Hearing.{heard-more, Listens}
@@ -43,23 +43,23 @@ pub record Breaking (ticks : ℕ) (s : DaliBitbangPhy) : Type 0 where
   pub yields : s .core .told .«tx_yielded» ≡ false
 
 module _ (s : DaliBitbangPhy) (sampled : Bool) (breaking : IsBreaking s) where
-  in-break : tickOf s sampled ≡ withCore s (collisionTick (heardOf (s .core) sampled) sampled)
-  unfolding tickOf actOf pick
+  in-break : tickOf s sampled ≡ withCore s (collisionTick (runsCounted (s .core) sampled) sampled)
+  unfolding tickOf tickIn pick
   in-break = rw breaking
 
   goes-on : (n : ℕ) → s .core .tx .«tx_sp_cnt» ≡ n → n < 13
-      → tickOf s sampled ≡ withCore s (withDrivenHigh (withTxSpCnt (heardOf (s .core) sampled) (suc n)) (ltb 12 (suc n)))
-  unfolding collisionTick heardOf
+      → tickOf s sampled ≡ withCore s (withDrivenHigh (withTxSpCnt (runsCounted (s .core) sampled) (suc n)) (ltb 12 (suc n)))
+  unfolding collisionTick runsCounted
   goes-on n e h =
       let next : (s .core .tx .«tx_sp_cnt» + 1) % 256 ≡ suc n = omega arith in
       in-break ∙ rw next (ap (withCore s) (on-false (lt-leb 14 (suc n) (omega arith)) _ _))
 
-  over : s .core .tx .«tx_sp_cnt» ≡ 13 → tickOf s sampled ≡ withCore s (broke (withTxSpCnt (heardOf (s .core) sampled) 14) sampled)
-  unfolding collisionTick heardOf pick
+  over : s .core .tx .«tx_sp_cnt» ≡ 13 → tickOf s sampled ≡ withCore s (broke (withTxSpCnt (runsCounted (s .core) sampled) 14) sampled)
+  unfolding collisionTick runsCounted pick
   over e = in-break ∙ rw e
 
 pub break-next : (n : ℕ) (s : DaliBitbangPhy) (sampled : Bool) → n < 13 → Breaking n s → Breaking (suc n) (tickOf s sampled)
-unfolding heardOf
+unfolding runsCounted
 break-next n s sampled h b =
     rw (goes-on s sampled (b .state) n (b .spaces) h)
     (record { state = b .state; spaces = refl; line = refl; collisions = b .collisions; yields = b .yields })
@@ -67,15 +67,15 @@ break-next n s sampled h b =
 -- the fourteenth tick samples the line
 pub break-ends : (s : DaliBitbangPhy) (sampled : Bool) → Breaking 13 s
     → IsIdle (tickOf s sampled) × Listens 1 sampled false (tickOf s sampled)
-unfolding broke idled idleTick silent fell heardOf pick hears
+unfolding broke idled idleTick silent fell runsCounted pick hears
 break-ends s true b = rw (over s true (b .state) (b .spaces)) (refl, record { hearing = refl; collisions = b .collisions; marked = refl; yields = b .yields })
 break-ends s false b = rw (over s false (b .state) (b .spaces)) (refl, record { hearing = refl; collisions = b .collisions; marked = refl; yields = b .yields })
 
 -- thirteen ticks of it
-pub breaks-on : (level : ℕ → Bool) (s : DaliBitbangPhy) → Breaking 0 s → (n : ℕ) → n ≤ 13 → Breaking n (heard n level s)
-unfolding heard
+pub breaks-on : (level : ℕ → Bool) (s : DaliBitbangPhy) → Breaking 0 s → (n : ℕ) → n ≤ 13 → Breaking n (afterLevels n level s)
+unfolding afterLevels
 breaks-on level s b zero h = b
-breaks-on level s b (suc n) h = break-next n (heard n level s) (level n) (omega arith) (breaks-on level s b n (omega arith))
+breaks-on level s b (suc n) h = break-next n (afterLevels n level s) (level n) (omega arith) (breaks-on level s b n (omega arith))
 
 -- ---- a sender that has begun half-bits
 module _ {bits : List Bool} {policy : CollisionPolicy} {j : ℕ} {s : DaliBitbangPhy} where
@@ -95,7 +95,7 @@ module _ {bits : List Bool} {policy : CollisionPolicy} {j : ℕ} {s : DaliBitban
     is-clash a = rw (a .released some refl, a .watch, a .loads, watched, a .spaces)
 
     pub sees : Sender bits policy 0 j 2 high s → Breaking 0 (tickOf s low)
-    unfolding stepped clashed heardOf txStep
+    unfolding afterStep clashed runsCounted txStep
     sees a =
         let rule : ruleOf s low ≡ Clash
         = on-false (ap (λ n. not (eqb n 0)) (a .arms)) _ _
@@ -108,31 +108,31 @@ module _ {bits : List Bool} {policy : CollisionPolicy} {j : ℕ} {s : DaliBitban
 module _ {bits : List Bool} {policy : CollisionPolicy} (fits : FitsBuffer bits) {j : ℕ} (some : 0 < j) (more : j < halfBitsOf (length bits))
     {s : DaliBitbangPhy} (level : ℕ → Bool) where
   -- released: two low ticks more, and it breaks
-  released-on : Sender bits policy 0 j 3 high s → Sender bits policy 0 j 2 high (heard 1 level s)
-  unfolding heard
+  released-on : Sender bits policy 0 j 3 high s → Sender bits policy 0 j 2 high (afterLevels 1 level s)
+  unfolding afterLevels
   released-on a = hold fits more (level 0) (not-yet (level 0) a) a
 
-  meets : watchesOf policy (halfBitsOf (length bits)) ≡ true → level 1 ≡ low → Sender bits policy 0 j 3 high s → Breaking 0 (heard 2 level s)
-  unfolding heard
+  meets : watchesOf policy (halfBitsOf (length bits)) ≡ true → level 1 ≡ low → Sender bits policy 0 j 3 high s → Breaking 0 (afterLevels 2 level s)
+  unfolding afterLevels
   meets watched falls a = rw falls (sees some more watched (released-on a))
 
   -- pulled: it holds the line for four ticks, whatever it samples, and drives the next one
-  pulled-on : Sender bits policy 0 j 3 low s → (n : ℕ) → n ≤ 3 → Sender bits policy 0 j (3 - n) low (heard n level s)
-  unfolding heard
+  pulled-on : Sender bits policy 0 j 3 low s → (n : ℕ) → n ≤ 3 → Sender bits policy 0 j (3 - n) low (afterLevels n level s)
+  unfolding afterLevels
   pulled-on a zero h = a
   pulled-on a (suc n) h =
       let left : 3 - n ≡ suc (3 - suc n) = omega arith in
       let before = pulled-on a n (omega arith) in
       hold fits more (level n) (pulls-on (level n) before) (rw left at before)
 
-  goes-over : Sender bits policy 0 j 3 low s → Sender bits policy 0 (j + 1) 3 (levelAt bits (4 * j)) (heard 4 level s)
-  unfolding heard
+  goes-over : Sender bits policy 0 j 3 low s → Sender bits policy 0 (j + 1) 3 (levelAt bits (4 * j)) (afterLevels 4 level s)
+  unfolding afterLevels
   goes-over a = let last = pulled-on a 3 (omega arith) in drive fits more (level 3) (pulls-on (level 3) last) last
 
 -- ---- a station that has sent up to some tick
 module _ (level : ℕ → Bool) (s : DaliBitbangPhy) where
   abbrev now : ℕ → DaliBitbangPhy
-  now t = heard t level s
+  now t = afterLevels t level s
 
   abbrev SendsTo : ℕ → Type 0
   SendsTo tick = (t : ℕ) → t < tick → IsSending (now t)
@@ -181,7 +181,7 @@ module _ (level : ℕ → Bool) (s : DaliBitbangPhy) where
         two-ticks (suc (suc n)) h = absurd (let none : ⊥ = omega arith in none)
 
   pub ends : {tick : ℕ} {found : Bool} → level (tick + 13) ≡ found → Broken tick → IsIdle (now (tick + 14)) × Listens 1 found false (now (tick + 14))
-  unfolding heard
+  unfolding afterLevels
   ends {tick} {found} sampled b =
       let e : tick + 14 ≡ suc (tick + 13) = omega arith in
       rw (e, sampled) (break-ends (now (tick + 13)) found (b .breaking 13 (omega arith)))

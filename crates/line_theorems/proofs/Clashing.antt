@@ -18,7 +18,7 @@ use Rattle.fsm.specs.declared.DaliBitbangPhy.{DaliBitbangPhy}
 use Rattle.machine.specs.States.{hears}
 use Rattle.bench_line.specs.declared.BenchLine.{BenchLine}
 use Rattle.bench_line.specs.Line.{stationsOn, stationAt}
-use Rattle.station_theorems.specs.Ticks.{drives, IsIdle, IsSending, heard, alone, IsBreaking}
+use Rattle.station_theorems.specs.Ticks.{drives, IsIdle, IsSending, afterLevels, alone, IsBreaking}
 use Rattle.frames.specs.Sends.{FitsBuffer}
 use Rattle.frames.proofs.SendingTicks.{Sender}
 use Rattle.frames.proofs.Sending.{waving, sends}
@@ -51,7 +51,7 @@ pulls-in-break (suc n) some most = le-ltb 12 (suc n) (omega arith)
 -- ---- what a break says of a station of the line
 module _ (l : BenchLine) (reached : ReachedLine l) {number : ℕ} (on : number < stationsOn l) where
   abbrev now : ℕ → DaliBitbangPhy
-  now t = heard t (levels l) (stationAt l number)
+  now t = afterLevels t (levels l) (stationAt l number)
 
   on-the-line : (P : DaliBitbangPhy → Type 0) (t : ℕ) → P (now t) → P (stationAt (ticksOn t l) number)
   on-the-line P t p = subst P (sym (on-line l reached number on t)) p
@@ -115,7 +115,7 @@ module _ (l : BenchLine) (reached : ReachedLine l) {lo wi : ℕ} {loser winner :
   begun : (n : ℕ) (bits : List Bool) (policy : CollisionPolicy) → Ready l n bits policy → Drives (sentLevel loser) (drivenAt j) (stationAt l n) → j ≤ 2 * length bits + 3
       → (driven : Bool) → levelAt bits (4 * j) ≡ driven → Begun (levels l) (stationAt l n) bits policy (drivenAt j) (suc j) driven
   begun n bits policy R d near driven e =
-      let itself : (t : ℕ) → t ≤ drivenAt j → heard t (levels l) (stationAt l n) ≡ alone t (stationAt l n)
+      let itself : (t : ℕ) → t ≤ drivenAt j → afterLevels t (levels l) (stationAt l n) ≡ alone t (stationAt l n)
       = λ t h. hears-itself l reached (sentLevel loser) (drivenAt j) roles lo (L .on) loser-drives t h (stationAt l n) d in
       let count : 4 * j / 4 + 1 ≡ suc j = omega arith in
       let left : 3 - 4 * j % 4 ≡ 3 = omega arith in
@@ -187,10 +187,10 @@ module _ (l : BenchLine) (reached : ReachedLine l) {lo wi : ℕ} {loser winner :
     unfolding hears
     winner-finds = high-at l reached (clash + 13) (λ n on. go n on (ℕ-discrete n wi) (ℕ-discrete n lo))
       where
-        go : (n : ℕ) → n < stationsOn l → Dec (n ≡ wi) → Dec (n ≡ lo) → drives (heard (clash + 13) (levels l) (stationAt l n)) ≡ high
-        go n on (yes e) either = subst (λ m. drives (heard (clash + 13) (levels l) (stationAt l m)) ≡ high) (sym e) (broken .breaking 13 (omega arith) .line)
+        go : (n : ℕ) → n < stationsOn l → Dec (n ≡ wi) → Dec (n ≡ lo) → drives (afterLevels (clash + 13) (levels l) (stationAt l n)) ≡ high
+        go n on (yes e) either = subst (λ m. drives (afterLevels (clash + 13) (levels l) (stationAt l m)) ≡ high) (sym e) (broken .breaking 13 (omega arith) .line)
         go n on (no d) (yes e) =
-            subst (λ m. drives (heard (clash + 13) (levels l) (stationAt l m)) ≡ high) (sym e)
+            subst (λ m. drives (afterLevels (clash + 13) (levels l) (stationAt l m)) ≡ high) (sym e)
             (listening l reached (clash + 13) lo (L .on) (listens-after l reached (L .on) loser-broken loser-finds (clash + 13) (omega arith) .hearing))
         go n on (no d) (no c) = listening l reached (clash + 13) n on (still-listening l reached (clash + 13) n (ap hears (others n on c d)))
 
@@ -199,11 +199,11 @@ module _ (l : BenchLine) (reached : ReachedLine l) {lo wi : ℕ} {loser winner :
     unfolding hears
     nobody-pulls t late = go (decLt (clash + 13) t)
       where
-        driven : clash + 14 ≤ t → (n : ℕ) → n < stationsOn l → Dec (n ≡ wi) → Dec (n ≡ lo) → hears (heard t (levels l) (stationAt l n) .core .bus .«bus_state») ≡ true
+        driven : clash + 14 ≤ t → (n : ℕ) → n < stationsOn l → Dec (n ≡ wi) → Dec (n ≡ lo) → hears (afterLevels t (levels l) (stationAt l n) .core .bus .«bus_state») ≡ true
         driven later n on (yes e) either =
-            subst (λ m. hears (heard t (levels l) (stationAt l m) .core .bus .«bus_state») ≡ true) (sym e) (listens-after l reached (W .on) broken winner-finds t later .hearing)
+            subst (λ m. hears (afterLevels t (levels l) (stationAt l m) .core .bus .«bus_state») ≡ true) (sym e) (listens-after l reached (W .on) broken winner-finds t later .hearing)
         driven later n on (no d) (yes e) =
-            subst (λ m. hears (heard t (levels l) (stationAt l m) .core .bus .«bus_state») ≡ true) (sym e)
+            subst (λ m. hears (afterLevels t (levels l) (stationAt l m) .core .bus .«bus_state») ≡ true) (sym e)
             (listens-after l reached (L .on) loser-broken loser-finds t (omega arith) .hearing)
         driven later n on (no d) (no c) = still-listening l reached t n (ap hears (others n on c d))
 
@@ -212,29 +212,29 @@ module _ (l : BenchLine) (reached : ReachedLine l) {lo wi : ℕ} {loser winner :
         go (no now) = let e : clash + 13 ≡ t = omega (arith, now) in subst (λ i. levels l i ≡ high) e winner-finds
 
     -- So sixteen ticks later all are Idle.
-    settles : (t : ℕ) → clash + 14 ≤ t → (n : ℕ) → n < stationsOn l → Settles (clash + 29 - t) (heard t (levels l) (stationAt l n))
+    settles : (t : ℕ) → clash + 14 ≤ t → (n : ℕ) → n < stationsOn l → Settles (clash + 29 - t) (afterLevels t (levels l) (stationAt l n))
     unfolding hears
     settles t late n on = go (ℕ-discrete n wi) (ℕ-discrete n lo)
       where
         from : (m since left : ℕ) → t ≡ since + m → clash + 13 ≤ since → left - m ≡ clash + 29 - t → (number : ℕ)
-            → Settles left (heard since (levels l) (stationAt l number)) → Settles (clash + 29 - t) (heard t (levels l) (stationAt l number))
+            → Settles left (afterLevels since (levels l) (stationAt l number)) → Settles (clash + 29 - t) (afterLevels t (levels l) (stationAt l number))
         from m since left e after same number s =
-            subst (λ i. Settles i (heard t (levels l) (stationAt l number))) same
-            (subst (λ i. Settles (left - m) (heard i (levels l) (stationAt l number))) (sym e)
+            subst (λ i. Settles i (afterLevels t (levels l) (stationAt l number))) same
+            (subst (λ i. Settles (left - m) (afterLevels i (levels l) (stationAt l number))) (sym e)
             (subst (λ (x : DaliBitbangPhy). Settles (left - m) x) (sym (heard-more since m (levels l) (stationAt l number)))
             (settles-on m left (λ i. levels l (since + i)) _ s (λ i h. nobody-pulls (since + i) (omega (arith, after))))))
 
-        hearing-from : (number : ℕ) → hears (heard (clash + 13) (levels l) (stationAt l number) .core .bus .«bus_state») ≡ true
-            → Settles (clash + 29 - t) (heard t (levels l) (stationAt l number))
+        hearing-from : (number : ℕ) → hears (afterLevels (clash + 13) (levels l) (stationAt l number) .core .bus .«bus_state») ≡ true
+            → Settles (clash + 29 - t) (afterLevels t (levels l) (stationAt l number))
         hearing-from number h = from (t - (clash + 13)) (clash + 13) 16 (omega (arith, late)) (omega arith) (omega (arith, late)) number (inr (h, omega arith))
 
-        go : Dec (n ≡ wi) → Dec (n ≡ lo) → Settles (clash + 29 - t) (heard t (levels l) (stationAt l n))
+        go : Dec (n ≡ wi) → Dec (n ≡ lo) → Settles (clash + 29 - t) (afterLevels t (levels l) (stationAt l n))
         go (yes e) either =
-            subst (λ m. Settles (clash + 29 - t) (heard t (levels l) (stationAt l m))) (sym e)
+            subst (λ m. Settles (clash + 29 - t) (afterLevels t (levels l) (stationAt l m))) (sym e)
             (from (t - (clash + 14)) (clash + 14) 15 (omega (arith, late)) (omega arith) (omega (arith, late)) wi
             (inl (ends (levels l) (stationAt l wi) winner-finds broken .0)))
         go (no d) (yes e) =
-            subst (λ m. Settles (clash + 29 - t) (heard t (levels l) (stationAt l m))) (sym e)
+            subst (λ m. Settles (clash + 29 - t) (afterLevels t (levels l) (stationAt l m))) (sym e)
             (hearing-from lo (listens-after l reached (L .on) loser-broken loser-finds (clash + 13) (omega arith) .hearing))
         go (no d) (no c) = hearing-from n (still-listening l reached (clash + 13) n (ap hears (others n on c d)))
 
@@ -244,9 +244,9 @@ module _ (l : BenchLine) (reached : ReachedLine l) {lo wi : ℕ} {loser winner :
     pub loser-breaks : Breaks l lo (at 2) low
     pub winner-breaks : Breaks l wi clash high
     pub loser-first : at 2 ≤ clash
-    pub loser-listens : (t : ℕ) → clash + 14 ≤ t → Listens 1 low false (heard t (levels l) (stationAt l lo))
-    pub winner-listens : (t : ℕ) → clash + 14 ≤ t → Listens 1 high false (heard t (levels l) (stationAt l wi))
-    pub all-settle : (t : ℕ) → clash + 14 ≤ t → (n : ℕ) → n < stationsOn l → Settles (clash + 29 - t) (heard t (levels l) (stationAt l n))
+    pub loser-listens : (t : ℕ) → clash + 14 ≤ t → Listens 1 low false (afterLevels t (levels l) (stationAt l lo))
+    pub winner-listens : (t : ℕ) → clash + 14 ≤ t → Listens 1 high false (afterLevels t (levels l) (stationAt l wi))
+    pub all-settle : (t : ℕ) → clash + 14 ≤ t → (n : ℕ) → n < stationsOn l → Settles (clash + 29 - t) (afterLevels t (levels l) (stationAt l n))
 
   over : (e clash : ℕ) → 4 ≤ e → e ≤ 8 → clash ≡ at 2 + e → Broken (levels l) (stationAt l wi) clash → Over clash
   over e clash from to is broken = record {

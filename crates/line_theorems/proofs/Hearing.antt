@@ -18,13 +18,13 @@ use Rattle.machine.specs.declared.RxState.the-variants.{Receiving, Completed}
 use Rattle.machine.specs.declared.Runs.{Runs}
 use Rattle.machine.specs.declared.Told.{Told}
 use Rattle.machine.specs.declared.Core.{Core}
-use Rattle.machine.specs.Runs.{heardOf}
+use Rattle.machine.specs.Runs.{runsCounted}
 use Rattle.machine.specs.BecomingIdle.{idled}
 use Rattle.machine.specs.Idle.{entered, idleTick, silent, fell}
 use Rattle.fsm.specs.Rx.{sampled, goesOn, finished, notified, rxTick, wentOn}
 use Rattle.fsm.specs.declared.DaliBitbangPhy.{DaliBitbangPhy}
 use Rattle.fsm.specs.Station.{newStation}
-use Rattle.fsm.specs.Ticking.{actOf, tickOf}
+use Rattle.fsm.specs.Ticking.{tickIn, tickOf}
 use Rattle.machine.specs.States.{hears}
 use Rattle.station_theorems.specs.Calls as station
 use Rattle.station_theorems.specs.Calls.{Reached, after}
@@ -32,7 +32,7 @@ use Rattle.station_theorems.proofs.Holding.{invariants}
 use Rattle.bench_line.specs.declared.BenchLine.{BenchLine}
 use Rattle.bench_line.specs.Line.{stationsOn, stationAt, levelLeft, lineTicked}
 use Rattle.bench_line.proofs.Laws.{left-high, left-low}
-use Rattle.station_theorems.specs.Ticks.{drives, IsIdle, heard}
+use Rattle.station_theorems.specs.Ticks.{drives, IsIdle, afterLevels}
 use Rattle.line_theorems.specs.Reached.{lineAfter, tick, ReachedLine, called}
 use Rattle.line_theorems.specs.Lines.{LineHolds}
 use Rattle.line_theorems.specs.OnLine.{ticksOn}
@@ -60,8 +60,8 @@ abbrev pub levels : BenchLine → ℕ → Bool
 levels l t = ticksOn t l .level
 
 pub on-line : (l : BenchLine) → ReachedLine l → (number : ℕ) → number < stationsOn l → (n : ℕ)
-    → stationAt (ticksOn n l) number ≡ heard n (levels l) (stationAt l number)
-unfolding ticksOn heard
+    → stationAt (ticksOn n l) number ≡ afterLevels n (levels l) (stationAt l number)
+unfolding ticksOn afterLevels
 on-line l r number on zero = refl
 on-line l r number on (suc n) =
     tick-at (ticksOn n l) (line-invariants (ticksOn n l) (ticks-reached n l r) .places) number (omega (arith, same-count n l))
@@ -80,20 +80,20 @@ pub left-if-one-low : (l : BenchLine) → LineHolds l → (number : ℕ) → num
 left-if-one-low l h number on low = h .left ∙ left-low number (stationsOn l) newStation (l .stations) on (omega (arith, h .places)) low
 
 -- ---- many ticks of a station
-pub heard-more : (m n : ℕ) (level : ℕ → Bool) (s : DaliBitbangPhy) → heard (m + n) level s ≡ heard n (λ t. level (m + t)) (heard m level s)
-unfolding heard
+pub heard-more : (m n : ℕ) (level : ℕ → Bool) (s : DaliBitbangPhy) → afterLevels (m + n) level s ≡ afterLevels n (λ t. level (m + t)) (afterLevels m level s)
+unfolding afterLevels
 heard-more m zero level s = rw (add-zero m)
 heard-more m (suc n) level s = rw (add-suc m n) (ap (λ (before : DaliBitbangPhy). tickOf before (level (m + n))) (heard-more m n level s))
 
-pub heard-same : (n : ℕ) (these those : ℕ → Bool) (s : DaliBitbangPhy) → ((t : ℕ) → t < n → these t ≡ those t) → heard n these s ≡ heard n those s
-unfolding heard
+pub heard-same : (n : ℕ) (these those : ℕ → Bool) (s : DaliBitbangPhy) → ((t : ℕ) → t < n → these t ≡ those t) → afterLevels n these s ≡ afterLevels n those s
+unfolding afterLevels
 heard-same zero these those s same = refl
 heard-same (suc n) these those s same =
-    ap (tickOf (heard n these s)) (same n (omega arith))
+    ap (tickOf (afterLevels n these s)) (same n (omega arith))
     ∙ ap (λ (before : DaliBitbangPhy). tickOf before (those n)) (heard-same n these those s (λ t below. same t (omega arith)))
 
-pub heard-reached : (n : ℕ) (level : ℕ → Bool) (s : DaliBitbangPhy) → Reached s → Reached (heard n level s)
-unfolding heard after
+pub heard-reached : (n : ℕ) (level : ℕ → Bool) (s : DaliBitbangPhy) → Reached s → Reached (afterLevels n level s)
+unfolding afterLevels after
 heard-reached zero level s r = r
 heard-reached (suc n) level s r = station.called (station.tick (level n)) (heard-reached n level s r)
 
@@ -110,26 +110,26 @@ pub record Keeps (c : Core) (level : Bool) (d : Core) : Type 0 where
   pub hearing : hears (d .bus .«bus_state») ≡ true
   pub mark : RxState
   pub told : d .told ≡ withRxState c mark .told
-  pub runs : d .runs ≡ heardOf c level .runs
+  pub runs : d .runs ≡ runsCounted c level .runs
 
 module _ (c : Core) (level : Bool) (h : hears (c .bus .«bus_state») ≡ true) where
-  idle-keeps : Keeps c level (idleTick (heardOf c level) level)
-  unfolding idleTick silent fell entered heardOf hears
+  idle-keeps : Keeps c level (idleTick (runsCounted c level) level)
+  unfolding idleTick silent fell entered runsCounted hears
   idle-keeps =
       cases (Keeps c level) level (λ _. record { hearing = h; mark = _; told = refl; runs = refl })
       (λ _. cases (Keeps c level) (ltb (min (c .bus .«rx_debounce» + 1) 255) 2)
       (λ _. record { hearing = h; mark = _; told = refl; runs = refl })
       (λ _. record { hearing = refl; mark = Receiving; told = refl; runs = refl }))
 
-  rx-keeps : (s : DaliBitbangPhy) → Keeps c level (rxTick s (heardOf c level) level .core)
-  unfolding rxTick wentOn notified finished idled heardOf hears
+  rx-keeps : (s : DaliBitbangPhy) → Keeps c level (rxTick s (runsCounted c level) level .core)
+  unfolding rxTick wentOn notified finished idled runsCounted hears
   rx-keeps s =
       cases (λ (t : DaliBitbangPhy). Keeps c level (t .core)) (goesOn (sampled (c .rx) level)) (λ _. record { hearing = h; mark = _; told = refl; runs = refl })
       (λ _. record { hearing = refl; mark = Completed; told = refl; runs = refl })
 
 module _ (s : DaliBitbangPhy) (level : Bool) (h : hears (s .core .bus .«bus_state») ≡ true) where
-  act-keeps : (state : BusState) → hears state ≡ true → Keeps (s .core) level (actOf state s (heardOf (s .core) level) level .core)
-  unfolding actOf hears pick
+  act-keeps : (state : BusState) → hears state ≡ true → Keeps (s .core) level (tickIn state s (runsCounted (s .core) level) level .core)
+  unfolding tickIn hears pick
   act-keeps bus.Idle e = idle-keeps (s .core) level h
   act-keeps bus.Rx e = rx-keeps (s .core) level h s
   act-keeps bus.Tx e = absurd (false≢true e)
@@ -150,8 +150,8 @@ module _ {collision : ℕ} {found yielded : Bool} where
         yields = ap (λ (told : Told). told .«tx_yielded») (k .told) ∙ h .yields;
       }
 
-  pub listens-on : (n : ℕ) (level : ℕ → Bool) {s : DaliBitbangPhy} → Listens collision found yielded s → Listens collision found yielded (heard n level s)
-  unfolding heard
+  pub listens-on : (n : ℕ) (level : ℕ → Bool) {s : DaliBitbangPhy} → Listens collision found yielded s → Listens collision found yielded (afterLevels n level s)
+  unfolding afterLevels
   listens-on zero level h = h
   listens-on (suc n) level h = listens-next _ (level n) (listens-on n level h)
 
@@ -160,13 +160,13 @@ listener-drives s r = invariants s r .released
 
 -- one that is Idle stays so while the line is high
 pub quiet-next : (s : DaliBitbangPhy) → IsIdle s → IsIdle (tickOf s true)
-unfolding tickOf actOf idleTick silent fell heardOf pick
+unfolding tickOf tickIn idleTick silent fell runsCounted pick
 quiet-next s idle = rw idle refl
 
-pub quiet : (n : ℕ) (level : ℕ → Bool) (s : DaliBitbangPhy) → IsIdle s → ((t : ℕ) → t < n → level t ≡ true) → IsIdle (heard n level s)
-unfolding heard
+pub quiet : (n : ℕ) (level : ℕ → Bool) (s : DaliBitbangPhy) → IsIdle s → ((t : ℕ) → t < n → level t ≡ true) → IsIdle (afterLevels n level s)
+unfolding afterLevels
 quiet zero level s idle high = idle
-quiet (suc n) level s idle high = rw (high n (omega arith)) (quiet-next (heard n level s) (quiet n level s idle (λ t below. high t (omega arith))))
+quiet (suc n) level s idle high = rw (high n (omega arith)) (quiet-next (afterLevels n level s) (quiet n level s idle (λ t below. high t (omega arith))))
 
 -- ---- one that hears, and will soon be Idle
 -- Idle already, or after so many high ticks more: sixteen running end an Rx
@@ -174,7 +174,7 @@ abbrev pub Settles : ℕ → DaliBitbangPhy → Type 0
 Settles left s = IsIdle s ⊎ ((hears (s .core .bus .«bus_state») ≡ true) × (16 ≤ s .core .runs .«high_run_ticks» + left))
 
 pub settles-next : (left : ℕ) (s : DaliBitbangPhy) → Settles left s → Settles (left - 1) (tickOf s true)
-unfolding heardOf pick
+unfolding runsCounted pick
 settles-next left s (inl idle) = inl (quiet-next s idle)
 settles-next left s (inr (hearing, many)) =
     let k = tick-keeps s true hearing in
@@ -184,13 +184,13 @@ settles-next left s (inr (hearing, many)) =
     more : (run next left : ℕ) → next ≡ min (run + 1) 65535 → 16 ≤ run + left → 16 ≤ next + (left - 1)
     more run next left e h = omega arith
 
-pub settles-on : (n left : ℕ) (level : ℕ → Bool) (s : DaliBitbangPhy) → Settles left s → ((t : ℕ) → t < n → level t ≡ true) → Settles (left - n) (heard n level s)
-unfolding heard
+pub settles-on : (n left : ℕ) (level : ℕ → Bool) (s : DaliBitbangPhy) → Settles left s → ((t : ℕ) → t < n → level t ≡ true) → Settles (left - n) (afterLevels n level s)
+unfolding afterLevels
 settles-on zero left level s h high = let e : left ≡ left - 0 = omega arith in subst (λ m. Settles m s) e h
 settles-on (suc n) left level s h high =
     let e : left - n - 1 ≡ left - suc n = omega arith in
     rw (high n (omega arith))
-    (subst (λ m. Settles m (tickOf (heard n level s) true)) e (settles-next (left - n) (heard n level s) (settles-on n left level s h (λ t below. high t (omega arith)))))
+    (subst (λ m. Settles m (tickOf (afterLevels n level s) true)) e (settles-next (left - n) (afterLevels n level s) (settles-on n left level s h (λ t below. high t (omega arith)))))
 
 pub settles-later : (sooner later : ℕ) → sooner ≤ later → (s : DaliBitbangPhy) → Settles sooner s → Settles later s
 settles-later sooner later h s (inl idle) = inl idle

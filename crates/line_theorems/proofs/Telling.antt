@@ -13,14 +13,14 @@ use Rattle.machine.specs.declared.BusState.{BusState}
 use Rattle.machine.specs.declared.BusState.the-variants as bus
 use Rattle.machine.specs.declared.Bus.{Bus}
 use Rattle.machine.specs.declared.Told.{Told}
-use Rattle.machine.specs.Runs.{heardOf}
+use Rattle.machine.specs.Runs.{runsCounted}
 use Rattle.machine.specs.Idle.{idleTick, silent, fell}
 use Rattle.fsm.specs.Station.{lastEvent}
 use Rattle.fsm.specs.declared.DaliBitbangPhy.{DaliBitbangPhy}
 use Rattle.fsm.specs.declared.Polled.{Polled}
 use Rattle.fsm.specs.declared.TxPollResult.the-variants.{Ok, Collision}
 use Rattle.machine.specs.States.{hears, isTx, isCompleted}
-use Rattle.fsm.specs.Ticking.{actOf, tickOf}
+use Rattle.fsm.specs.Ticking.{tickIn, tickOf}
 use Rattle.fsm.specs.Polling.{polled}
 use Rattle.fsm.specs.Calls.{tookIdle, tookRx}
 use Rattle.bench_line.specs.declared.BenchLine.{BenchLine}
@@ -250,7 +250,7 @@ module _ {frame : Frame} (s : DaliBitbangPhy) where
       record { ready = ap isCompleted mark ∙ h .ready; read = subst (ReadAs frame) (sym same) (h .read) }
 
   event-ticks : IsIdle s → Event frame s → Event frame (tickOf s true)
-  unfolding tickOf actOf idleTick silent fell heardOf pick
+  unfolding tickOf tickIn idleTick silent fell runsCounted pick
   event-ticks idle h = same-event (tickOf s true) (rw idle refl) (rw idle refl) h
 
   event-stays : (k : Call) → isBetween k ≡ true → (k ≡ station.take-rx → ⊥) → (k ≡ station.acknowledge → ⊥) → Event frame s → Event frame (after k s)

@@ -18,7 +18,7 @@ use Rattle.machine.specs.Sending.{watchesOf}
 use Rattle.fsm.specs.declared.DaliBitbangPhy.{DaliBitbangPhy}
 use Rattle.bench_line.specs.declared.BenchLine.{BenchLine}
 use Rattle.bench_line.specs.Line.{stationsOn, stationAt}
-use Rattle.station_theorems.specs.Ticks.{IsIdle, heard}
+use Rattle.station_theorems.specs.Ticks.{IsIdle, afterLevels}
 use Rattle.frames.specs.Sends.{Sends}
 use Rattle.frames.proofs.SendingTicks as sending
 use Rattle.frames.proofs.Sending.{sends}
@@ -226,8 +226,8 @@ pub record Side (l : BenchLine) (c : Sender) : Type 0 where
   pub few : length (bitsIn c) ≤ 24
   pub pulls-are : (i : ℕ) → pullsIn (bufferIn c) i ≡ pulls (bitsIn c) i
 
--- what is so of a station that has heard so many ticks, on the line
-on-now : (l : BenchLine) → ReachedLine l → (n : ℕ) → n < stationsOn l → (P : DaliBitbangPhy → Type 0) (t : ℕ) → P (heard t (levels l) (stationAt l n)) → On n P (ticksOn t l)
+-- what is so of a station that has ticked so many times, on the line
+on-now : (l : BenchLine) → ReachedLine l → (n : ℕ) → n < stationsOn l → (P : DaliBitbangPhy → Type 0) (t : ℕ) → P (afterLevels t (levels l) (stationAt l n)) → On n P (ticksOn t l)
 on-now l reached n on P t p = record { reached = ticks-reached t l reached; on = omega (arith, on, same-count t l); is = subst P (sym (on-line l reached n on t)) p }
 
 module _ (l : BenchLine) (reached : ReachedLine l) (wi lo : Sender) (W : Side l wi) (L : Side l lo)
@@ -260,7 +260,7 @@ module _ (l : BenchLine) (reached : ReachedLine l) (wi lo : Sender) (W : Side l 
           settles = λ n on.
               let here : n < stationsOn l = omega (arith, on, same-count t l) in
               on-now l reached n here (λ s. Settles (231 - t) s) t
-              (settles-later (winnerAt (bufferIn wi) j + 29 - t) (231 - t) (omega (arith, early)) (heard t (levels l) (stationAt l n)) (over .all-settle t (omega (arith, early, late)) n here)) .is;
+              (settles-later (winnerAt (bufferIn wi) j + 29 - t) (231 - t) (omega (arith, early)) (afterLevels t (levels l) (stationAt l n)) (over .all-settle t (omega (arith, early, late)) n here)) .is;
         };
       }
 

@@ -30,11 +30,11 @@ LoneSender = (l : BenchLine) → ReachedLine l → AllIdle l → (a : Sender) �
 -- ---- from which tick on
 -- the last half-bit that pulls low: the second half of the last bit, or the first if that bit is a 1
 abbrev pub lastPull : List Bool → ℕ
-lastPull bits = pick (getD (true ∷ bits) (length bits) true) (2 * length bits) (2 * length bits + 1)
+lastPull row = pick (getD (true ∷ row) (length row) true) (2 * length row) (2 * length row + 1)
 
 -- 88 or 92 for 8 bits, 152 or 156 for 16, 216 or 220 for 24
 abbrev pub completeAt : List Bool → ℕ
-completeAt bits = 24 + 4 * lastPull bits
+completeAt row = 24 + 4 * lastPull row
 
 -- A listener's event is complete from that tick on, and the sender's frame is sent once it is Idle.
 abbrev pub LoneSenderFrom : Type 0

@@ -15,7 +15,7 @@ use Rattle.text.specs.Letters.{lf}
 use Rattle.text.specs.Fields.{grow, partedAt, fieldsAt}
 use Rattle.text.proofs.FieldLaws.{fields-some}
 use Rattle.lines.specs.declared.Lines.{Lines}
-use Rattle.lines.specs.Lines.{linesOf, lineRoom, newLines, waiting, kept, emptied}
+use Rattle.lines.specs.Lines.{linesOf, lineRoom, newLines, waiting, extended, emptied}
 use Rattle.lines.specs.Chunk.{endedParts, afterParts, ended, after}
 use Rattle.lines.specs.AnyChunks.{lastOf, endedOver, joined, shortened, LinesOfAnyChunks}
 use Rattle.lines.proofs.Kept.{kept-none, kept-full, kept-one, kept-byte}
@@ -32,23 +32,23 @@ parted-on none byte bytes n = on-false (ne-eqb byte lf n) _ _
 
 module _ (lines : Lines) (byte : ℕ) where
   -- a byte in front of the first part
-  ended-grown : (parts : List (List ℕ)) → endedParts lines (grow byte parts) ≡ endedParts (kept lines (byte ∷ [])) parts
+  ended-grown : (parts : List (List ℕ)) → endedParts lines (grow byte parts) ≡ endedParts (extended lines (byte ∷ [])) parts
   unfolding endedParts grow
   ended-grown [] = refl
   ended-grown (part ∷ []) = refl
   ended-grown (part ∷ next ∷ rest) = ap (λ (l : Lines). waiting l ∷ endedParts (emptied l) (next ∷ rest)) (sym (kept-byte lines byte part))
 
-  after-grown : (parts : List (List ℕ)) → afterParts lines (grow byte parts) ≡ afterParts (kept lines (byte ∷ [])) parts
+  after-grown : (parts : List (List ℕ)) → afterParts lines (grow byte parts) ≡ afterParts (extended lines (byte ∷ [])) parts
   unfolding afterParts grow
   after-grown [] = refl
   after-grown (part ∷ []) = sym (kept-byte lines byte part)
   after-grown (part ∷ next ∷ rest) = ap (λ (l : Lines). afterParts (emptied l) (next ∷ rest)) (sym (kept-byte lines byte part))
 
   module _ (bytes : List ℕ) where
-    ended-on : (byte ≡ lf → ⊥) → ended lines (byte ∷ bytes) ≡ ended (kept lines (byte ∷ [])) bytes
+    ended-on : (byte ≡ lf → ⊥) → ended lines (byte ∷ bytes) ≡ ended (extended lines (byte ∷ [])) bytes
     ended-on n = ap (endedParts lines) (parted-on ([] ∷ []) byte bytes n) ∙ ended-grown (fieldsAt lf bytes)
 
-    after-on : (byte ≡ lf → ⊥) → after lines (byte ∷ bytes) ≡ after (kept lines (byte ∷ [])) bytes
+    after-on : (byte ≡ lf → ⊥) → after lines (byte ∷ bytes) ≡ after (extended lines (byte ∷ [])) bytes
     after-on n = ap (afterParts lines) (parted-on ([] ∷ []) byte bytes n) ∙ after-grown (fieldsAt lf bytes)
 
     ended-end : byte ≡ lf → ended lines (byte ∷ bytes) ≡ waiting lines ∷ ended (emptied lines) bytes
@@ -68,7 +68,7 @@ module _
     (P : Lines → List ℕ → Type 0)
     (none : (lines : Lines) → P lines [])
     (end : (lines : Lines) (byte : ℕ) (bytes : List ℕ) → byte ≡ lf → P (emptied lines) bytes → P lines (byte ∷ bytes))
-    (on : (lines : Lines) (byte : ℕ) (bytes : List ℕ) → (byte ≡ lf → ⊥) → P (kept lines (byte ∷ [])) bytes → P lines (byte ∷ bytes))
+    (on : (lines : Lines) (byte : ℕ) (bytes : List ℕ) → (byte ≡ lf → ⊥) → P (extended lines (byte ∷ [])) bytes → P lines (byte ∷ bytes))
   where
     bytewise : (bytes : List ℕ) (lines : Lines) → P lines bytes
     bytewise [] lines = none lines
@@ -76,7 +76,7 @@ module _
       where
         split : (t : Bool) → eqb byte lf ≡ t → ((l : Lines) → P l bytes) → P lines (byte ∷ bytes)
         split true e h = end lines byte bytes (eqb-true byte lf e) (h (emptied lines))
-        split false e h = on lines byte bytes (eqb-false byte lf e) (h (kept lines (byte ∷ [])))
+        split false e h = on lines byte bytes (eqb-false byte lf e) (h (extended lines (byte ∷ [])))
 
 -- ---- chunks
 module _ (more : List ℕ) where
@@ -148,10 +148,10 @@ record Waits (lines : Lines) (read : List ℕ) : Type 0 where
 waits-none : (lines : Lines) → length (lines .held) ≡ lineRoom → Waits (emptied lines) []
 waits-none lines e = record { size = refl; held = refl; room = e }
 
-waits-more : (lines : Lines) (read : List ℕ) (byte : ℕ) → Waits lines read → Waits (kept lines (byte ∷ [])) (read ++ (byte ∷ []))
+waits-more : (lines : Lines) (read : List ℕ) (byte : ℕ) → Waits lines read → Waits (extended lines (byte ∷ [])) (read ++ (byte ∷ []))
 waits-more lines read byte w = split (decLt (lines .len) lineRoom)
   where
-    split : Dec (lines .len < lineRoom) → Waits (kept lines (byte ∷ [])) (read ++ (byte ∷ []))
+    split : Dec (lines .len < lineRoom) → Waits (extended lines (byte ∷ [])) (read ++ (byte ∷ []))
     split (yes h) =
         let few : length read < lineRoom = omega (arith, w .size, length-take lineRoom read) in
         let whole : take lineRoom read ≡ read = take-all lineRoom read (omega arith) in

@@ -10,17 +10,17 @@ use Rattle.laws.proofs.Picked.{cases}
 use Rattle.text.specs.Letters.{lf}
 use Rattle.text.specs.Fields.{fieldsAt}
 use Rattle.lines.specs.declared.Lines.{Lines}
-use Rattle.lines.specs.Lines.{lineRoom, waiting, kept, emptied, partFrom, taken}
+use Rattle.lines.specs.Lines.{lineRoom, waiting, extended, emptied, partFrom, taken}
 use Rattle.lines.specs.Chunk.{endedParts, afterParts, ended, after}
 use Rattle.lines.specs.AnyChunks.{lastOf}
 
 -- ---- one line
-pub kept-within : (lines : Lines) (bytes : List ℕ) → lines .len ≤ lineRoom → kept lines bytes .len ≤ lineRoom
-unfolding kept
+pub kept-within : (lines : Lines) (bytes : List ℕ) → lines .len ≤ lineRoom → extended lines bytes .len ≤ lineRoom
+unfolding extended
 kept-within lines bytes h = omega arith
 
-pub kept-held : (lines : Lines) (bytes : List ℕ) → length (kept lines bytes .held) ≡ length (lines .held)
-unfolding kept
+pub kept-held : (lines : Lines) (bytes : List ℕ) → length (extended lines bytes .held) ≡ length (lines .held)
+unfolding extended
 kept-held lines bytes = length-sets (lines .held) (lines .len) (take (lineRoom - lines .len) bytes)
 
 pub waiting-within : (lines : Lines) → lines .len ≤ lineRoom → length (waiting lines) ≤ lineRoom
@@ -47,19 +47,19 @@ unfolding endedParts
 parts-short [] lines h = none-short
 parts-short (part ∷ []) lines h = none-short
 parts-short (part ∷ next ∷ rest) lines h =
-    one-short (waiting (kept lines part)) (endedParts (emptied (kept lines part)) (next ∷ rest)) (waiting-within (kept lines part) (kept-within lines part h)) (parts-short (next ∷ rest) (emptied (kept lines part)) (omega arith))
+    one-short (waiting (extended lines part)) (endedParts (emptied (extended lines part)) (next ∷ rest)) (waiting-within (extended lines part) (kept-within lines part h)) (parts-short (next ∷ rest) (emptied (extended lines part)) (omega arith))
 
 parts-within : (parts : List (List ℕ)) (lines : Lines) → lines .len ≤ lineRoom → afterParts lines parts .len ≤ lineRoom
 unfolding afterParts
 parts-within [] lines h = h
 parts-within (part ∷ []) lines h = kept-within lines part h
-parts-within (part ∷ next ∷ rest) lines h = parts-within (next ∷ rest) (emptied (kept lines part)) (omega arith)
+parts-within (part ∷ next ∷ rest) lines h = parts-within (next ∷ rest) (emptied (extended lines part)) (omega arith)
 
 parts-held : (parts : List (List ℕ)) (lines : Lines) → length (afterParts lines parts .held) ≡ length (lines .held)
 unfolding afterParts
 parts-held [] lines = refl
 parts-held (part ∷ []) lines = kept-held lines part
-parts-held (part ∷ next ∷ rest) lines = parts-held (next ∷ rest) (emptied (kept lines part)) ∙ kept-held lines part
+parts-held (part ∷ next ∷ rest) lines = parts-held (next ∷ rest) (emptied (extended lines part)) ∙ kept-held lines part
 
 module _ (lines : Lines) where
   pub ended-short : lines .len ≤ lineRoom → (chunk : List ℕ) → Short (ended lines chunk)

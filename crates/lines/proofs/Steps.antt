@@ -12,19 +12,19 @@ use Rattle.text.specs.Letters.{lf}
 use Rattle.text.specs.Fields.{bytesBefore, partedAt, fieldsAt}
 use Rattle.text.proofs.FieldLaws.{before-≤, cut-at, fields-last, fields-some}
 use Rattle.lines.specs.declared.Lines.{Lines}
-use Rattle.lines.specs.Lines.{waiting, kept, emptied, partFrom, endsFrom, taken}
+use Rattle.lines.specs.Lines.{waiting, extended, emptied, partFrom, endsFrom, taken}
 use Rattle.lines.specs.Chunk.{endedParts, afterParts, ended, after}
 use Rattle.lines.proofs.Kept.{kept-none}
 
 -- ---- a part that an LF ends, and one that waits
 module _ (lines : Lines) (part : List ℕ) where
   pub part-ends : (rest : List (List ℕ)) → 0 < length rest
-      → endedParts lines (part ∷ rest) ≡ waiting (kept lines part) ∷ endedParts (emptied (kept lines part)) rest
+      → endedParts lines (part ∷ rest) ≡ waiting (extended lines part) ∷ endedParts (emptied (extended lines part)) rest
   unfolding endedParts
   part-ends [] h = absurd (omega (arith, h))
   part-ends (next ∷ rest) h = refl
 
-  pub part-passes : (rest : List (List ℕ)) → 0 < length rest → afterParts lines (part ∷ rest) ≡ afterParts (emptied (kept lines part)) rest
+  pub part-passes : (rest : List (List ℕ)) → 0 < length rest → afterParts lines (part ∷ rest) ≡ afterParts (emptied (extended lines part)) rest
   unfolding afterParts
   part-passes [] h = absurd (omega (arith, h))
   part-passes (next ∷ rest) h = refl
@@ -53,11 +53,11 @@ module _ (lines : Lines) (chunk : List ℕ) (from : ℕ) where
 
   pub line-ends : endsFrom chunk from ≡ true
       → ended lines (drop from chunk)
-      ≡ waiting (kept lines (partFrom chunk from)) ∷ ended (emptied (kept lines (partFrom chunk from))) (drop (taken lines chunk from .next) chunk)
+      ≡ waiting (extended lines (partFrom chunk from)) ∷ ended (emptied (extended lines (partFrom chunk from))) (drop (taken lines chunk from .next) chunk)
   line-ends e = ap (endedParts lines) (cut e) ∙ part-ends lines (partFrom chunk from) _ (fields-some lf _)
 
   pub goes-on : endsFrom chunk from ≡ true
-      → after lines (drop from chunk) ≡ after (emptied (kept lines (partFrom chunk from))) (drop (taken lines chunk from .next) chunk)
+      → after lines (drop from chunk) ≡ after (emptied (extended lines (partFrom chunk from))) (drop (taken lines chunk from .next) chunk)
   goes-on e = ap (afterParts lines) (cut e) ∙ part-passes lines (partFrom chunk from) _ (fields-some lf _)
 
   -- ---- the chunk ends
@@ -65,7 +65,7 @@ module _ (lines : Lines) (chunk : List ℕ) (from : ℕ) where
   unfolding endedParts
   no-line-ends e = ap (endedParts lines) (fields-last lf (drop from chunk) (ltb-false (bytesBefore lf (drop from chunk)) (length (drop from chunk)) e))
 
-  pub rest-waits : endsFrom chunk from ≡ false → after lines (drop from chunk) ≡ kept lines (partFrom chunk from)
+  pub rest-waits : endsFrom chunk from ≡ false → after lines (drop from chunk) ≡ extended lines (partFrom chunk from)
   unfolding afterParts
   rest-waits e =
       let h = ltb-false (bytesBefore lf (drop from chunk)) (length (drop from chunk)) e in

@@ -26,7 +26,7 @@ joined (chunk ∷ chunks) = chunk ++ joined chunks
 -- of each line as many bytes as are kept
 unfoldable pub shortened : List (List ℕ) → List (List ℕ)
 shortened [] = []
-shortened (line ∷ lines) = take lineRoom line ∷ shortened lines
+shortened (text ∷ lines) = take lineRoom text ∷ shortened lines
 
 abbrev pub LinesOfAnyChunks : Type 0
 LinesOfAnyChunks = (chunks : List (List ℕ)) → endedOver newLines chunks ≡ shortened (linesOf (joined chunks))

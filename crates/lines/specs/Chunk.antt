@@ -4,18 +4,18 @@ use mathlib.Core.List.{List, [], _∷_}
 use Rattle.text.specs.Letters.{lf}
 use Rattle.text.specs.Fields.{fieldsAt}
 use Rattle.lines.specs.declared.Lines.{Lines}
-use Rattle.lines.specs.Lines.{waiting, kept, emptied}
+use Rattle.lines.specs.Lines.{waiting, extended, emptied}
 
 -- The parts of a chunk stand between its LFs. Each but the last ends the line that waits; the last waits itself.
 unfoldable pub endedParts : Lines → List (List ℕ) → List (List ℕ)
 endedParts lines [] = []
 endedParts lines (part ∷ []) = []
-endedParts lines (part ∷ next ∷ rest) = waiting (kept lines part) ∷ endedParts (emptied (kept lines part)) (next ∷ rest)
+endedParts lines (part ∷ next ∷ rest) = waiting (extended lines part) ∷ endedParts (emptied (extended lines part)) (next ∷ rest)
 
 unfoldable pub afterParts : Lines → List (List ℕ) → Lines
 afterParts lines [] = lines
-afterParts lines (part ∷ []) = kept lines part
-afterParts lines (part ∷ next ∷ rest) = afterParts (emptied (kept lines part)) (next ∷ rest)
+afterParts lines (part ∷ []) = extended lines part
+afterParts lines (part ∷ next ∷ rest) = afterParts (emptied (extended lines part)) (next ∷ rest)
 
 -- the lines that end in a chunk, as far as there is room for each
 abbrev pub ended : Lines → List ℕ → List (List ℕ)

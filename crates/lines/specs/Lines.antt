@@ -31,8 +31,8 @@ abbrev pub waiting : Lines → List ℕ
 waiting lines = take (lines .len) (lines .held)
 
 -- bytes more of that line, as far as there is room
-unfoldable pub kept : Lines → List ℕ → Lines
-kept lines bytes =
+unfoldable pub extended : Lines → List ℕ → Lines
+extended lines bytes =
     heldBy (sets (lines .held) (lines .len) (take (lineRoom - lines .len) bytes)) (lines .len + min (length bytes) (lineRoom - lines .len))
 
 -- the line has ended, and none waits
@@ -52,7 +52,7 @@ endsFrom chunk from = ltb (bytesBefore lf (drop from chunk)) (length (drop from 
 unfoldable pub taken : Lines → List ℕ → ℕ → Taken
 taken lines chunk from =
     record {
-      len = kept lines (partFrom chunk from) .len;
+      len = extended lines (partFrom chunk from) .len;
       next = from + bytesBefore lf (drop from chunk) + bit (endsFrom chunk from);
       ended = endsFrom chunk from;
     }

@@ -5,7 +5,7 @@ ghost use Prim.Native.Nat.{_+_, _-_, _≤_, min};
 ghost use lib.ListN.{length, take as first};
 ghost use lib.Seq.{sets};
 ghost use Rattle.lines.specs.Constants.{publicConstants};
-ghost use Rattle.lines.specs.Lines.{lineRoom, newLines, heldBy, kept, partFrom, taken};
+ghost use Rattle.lines.specs.Lines.{lineRoom, newLines, heldBy, extended, partFrom, taken};
 use text::fields;
 use text::writing;
 
@@ -53,7 +53,7 @@ impl Lines {
 // without its LF; the next one is taken in with a `len` of 0.
 pub fn take(held: &mut [u8; LINE_ROOM], len: usize, chunk: &[u8], from: usize) -> Taken
     ensures { λ r. ⌜ r ≡ taken (heldBy (now (held .entry)) len) (now (chunk .entry)) from ⌝ }
-    ensures { λ r. ⌜ now (held .exit) ≡ kept (heldBy (now (held .entry)) len) (partFrom (now (chunk .entry)) from) .held ⌝ }
+    ensures { λ r. ⌜ now (held .exit) ≡ extended (heldBy (now (held .entry)) len) (partFrom (now (chunk .entry)) from) .held ⌝ }
 {
     if chunk.len() <= from {
         return Taken {

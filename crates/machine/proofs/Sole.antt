@@ -9,7 +9,7 @@ use Rattle.machine.proofs.saturating_inc16.Reads as saturating-inc16
 use Rattle.machine.proofs.saturating_inc8.Reads as saturating-inc8
 use Rattle.machine.proofs.wrapping_inc8.Reads as wrapping-inc8
 use Rattle.machine.proofs.TxHb.of.Reads as of
-use Rattle.machine.proofs.Core.heard.Reads as heard
+use Rattle.machine.proofs.Core.count_runs.Reads as count-runs
 use Rattle.machine.proofs.Core.set_bus_idle.Reads as set-bus-idle
 use Rattle.machine.proofs.Core.tick_idle.Reads as tick-idle
 use Rattle.machine.proofs.Core.count_idle.Reads as count-idle
@@ -43,8 +43,8 @@ wrapping-inc8-sole κs a x = named _
 pub of-sole : (κs : _) (a : _) (x : _) → Only (λ r. of.Post κs a r x)
 of-sole κs a x = named _
 
-pub heard-sole : (κs : _) (a : _) (x : _) → Only (λ r. heard.Post κs a r x)
-heard-sole κs a x = named _
+pub count-runs-sole : (κs : _) (a : _) (x : _) → Only (λ r. count-runs.Post κs a r x)
+count-runs-sole κs a x = named _
 
 pub set-bus-idle-sole : (κs : _) (a : _) (x : _) → Only (λ r. set-bus-idle.Post κs a r x)
 set-bus-idle-sole κs a x = named _

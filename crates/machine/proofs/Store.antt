@@ -11,7 +11,7 @@ use lib.ListN.{length, getD, List·getD-eq-default}
 use Rattle.laws.specs.Packed.{packed}
 use Rattle.laws.proofs.Digits.{packed-same, packed-add, packed-lt, packed-zero, packed-bits, packed-digit}
 use Rattle.halfbits.specs.declared.HalfBitBuffer.{HalfBitBuffer}
-use Rattle.machine.specs.Sending.{halfBitIn, halfBitsIn, storeOf, releasesAt}
+use Rattle.machine.specs.Sending.{halfBitIn, halfBitsIn, txHbOf, releasesAt}
 
 -- as many bytes as have been taken
 abbrev pub taken : List ℕ → ℕ → ℕ
@@ -61,7 +61,7 @@ pub ended : (bytes : List ℕ) (bits at : ℕ) → length bytes ≡ 7 → at ≤
 ended bytes bits at whole within past so-far = let e : at ≡ 7 = omega arith in rw (so-far, e) (all-taken bytes whole)
 
 -- A half-bit of what a start loads is that of the buffer's bytes.
-pub releases-loaded : (hb : HalfBitBuffer) (at : ℕ) → at < 64 → releasesAt (storeOf hb) at ≡ eqb (halfBitIn (hb .«data») at) 0
-unfolding releasesAt storeOf halfBitsIn
+pub releases-loaded : (hb : HalfBitBuffer) (at : ℕ) → at < 64 → releasesAt (txHbOf hb) at ≡ eqb (halfBitIn (hb .«data») at) 0
+unfolding releasesAt txHbOf halfBitsIn
 releases-loaded hb at within =
     ap (λ x. eqb x 0) (packed-digit 2 64 at (63 - at) (halfBitIn (hb .«data»)) (omega arith) (half-bit-lt (hb .«data»)))

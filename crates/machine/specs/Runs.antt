@@ -10,8 +10,8 @@ abbrev runsOf : ℕ → ℕ → Runs
 runsOf high low = record { «high_run_ticks» = high; «low_run_ticks» = low }
 
 -- The run of the level that was sampled is one tick longer, and stops at 65,535; the run of the other level is over.
-unfoldable pub heardOf : Core → Bool → Core
-heardOf c high =
+unfoldable pub runsCounted : Core → Bool → Core
+runsCounted c high =
     withRuns c
     (pick high
     (runsOf (min (c .runs .«high_run_ticks» + 1) 65535) 0)

@@ -27,8 +27,8 @@ halfBitIn bytes at = getD bytes (at / 8) 0 / 2 ^ (7 - at % 8) % 2
 unfoldable pub halfBitsIn : List ℕ → ℕ
 halfBitsIn bytes = packed 2 64 (halfBitIn bytes)
 
-unfoldable pub storeOf : HalfBitBuffer → TxHb
-storeOf hb = record { «tx_hb_bits» = halfBitsIn (hb .«data»); «tx_hb_len» = hb .length }
+unfoldable pub txHbOf : HalfBitBuffer → TxHb
+txHbOf hb = record { «tx_hb_bits» = halfBitsIn (hb .«data»); «tx_hb_len» = hb .length }
 
 -- a half-bit of the store: 0 leaves the line high
 unfoldable pub releasesAt : TxHb → ℕ → Bool
@@ -113,14 +113,14 @@ driven c high =
       «tx_answer» = c .tx .«tx_answer»;
     })
 
-unfoldable pub stepped : Step → Core → Core
-stepped Arm c = armed c
-stepped Yield c = yielded c
-stepped End c = idled c
-stepped Clash c = clashed c
-stepped Hold c = held c
-stepped (Drive high) c = driven c high
+unfoldable pub afterStep : Step → Core → Core
+afterStep Arm c = armed c
+afterStep Yield c = yielded c
+afterStep End c = idled c
+afterStep Clash c = clashed c
+afterStep Hold c = held c
+afterStep (Drive high) c = driven c high
 
 -- The policy is read at each tick.
 unfoldable pub txTick : Core → TxHb → Bool → Core
-txTick c hb high = stepped (txStep (c .tx) (c .«collision_policy») hb high) c
+txTick c hb high = afterStep (txStep (c .tx) (c .«collision_policy») hb high) c

@@ -5,9 +5,9 @@ ghost use Prim.Native.Nat.{_+_, _-_, _%_, _<_, min};
 ghost use Rattle.machine.specs.Constants.{publicConstants};
 ghost use Rattle.machine.specs.Numbers.{busStateNumber, rxStateNumber, collisionPolicyNumber};
 ghost use Rattle.machine.specs.States.{isIdle, hears, isTx, isCompleted};
-ghost use Rattle.machine.specs.Runs.{heardOf};
+ghost use Rattle.machine.specs.Runs.{runsCounted};
 ghost use Rattle.machine.specs.Idle.{entered, silent, fell, idleTick};
-ghost use Rattle.machine.specs.Sending.{halfBitsIn, storeOf, releasesAt, watchesOf, clashOf, armedStep, txStep, isHold, armed, yielded, clashed, held, driven, stepped, txTick};
+ghost use Rattle.machine.specs.Sending.{halfBitsIn, txHbOf, releasesAt, watchesOf, clashOf, armedStep, txStep, isHold, armed, yielded, clashed, held, driven, afterStep, txTick};
 ghost use Rattle.machine.specs.Collision.{broke, collisionTick};
 ghost use Rattle.machine.specs.BecomingIdle.{idled};
 ghost use Rattle.machine.specs.Starting.{loaded};
@@ -280,7 +280,7 @@ fn pre_idle(idlecnt: u16) -> u8
 impl TxHb {
     // What a start loads.
     pub fn of(halfbits: HalfBitBuffer) -> TxHb
-        ensures { λ r. ⌜ r ≡ storeOf halfbits ⌝ }
+        ensures { λ r. ⌜ r ≡ txHbOf halfbits ⌝ }
     {
         let data = halfbits.data;
         TxHb {
@@ -336,8 +336,8 @@ impl Tx {
 
 impl Core {
     // Both run lengths, which each tick counts before it acts.
-    pub fn heard(mut self, bus_is_high: bool) -> Core
-        ensures { λ r. ⌜ r ≡ heardOf self «bus_is_high» ⌝ }
+    pub fn count_runs(mut self, bus_is_high: bool) -> Core
+        ensures { λ r. ⌜ r ≡ runsCounted self «bus_is_high» ⌝ }
     {
         if bus_is_high {
             let high = saturating_inc16(self.runs.high_run_ticks);
@@ -454,7 +454,7 @@ impl Core {
     }
 
     fn tick_tx_armed(self, bus_is_high: bool) -> Core
-        ensures { λ r. ⌜ r ≡ stepped (armedStep (self .tx) «bus_is_high») self ⌝ }
+        ensures { λ r. ⌜ r ≡ afterStep (armedStep (self .tx) «bus_is_high») self ⌝ }
     {
         if !bus_is_high && !self.tx.tx_answer {
             return self.yield_tx();

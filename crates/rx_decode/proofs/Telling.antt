@@ -14,7 +14,7 @@ use Rattle.rx_decode.specs.declared.SniffedFrame.{SniffedFrame}
 use Rattle.rx_decode.specs.declared.SniffedDecode.{SniffedDecode}
 use Rattle.rx_decode.specs.declared.BackwardByte.{BackwardByte}
 use Rattle.rx_decode.specs.Reading.{byteOf, frameOf, sniffedOf, byteIn}
-use Rattle.rx_decode.specs.Kinds.{IsFrame, IsOther, Says, SaysByte}
+use Rattle.rx_decode.specs.Kinds.{IsFrame, IsOther, SaysFrame, SaysByte}
 
 -- a decode of 8, 16 or 24 bits begins with the bytes that its frame has
 one-byte : (d : PhaseDecode) → d .«bit_len» ≡ 8 → IsFrame 8 (byteOf (d .«data») 0 ∷ []) (Decode d)
@@ -40,25 +40,25 @@ three-bytes : (d : PhaseDecode) → d .«bit_len» ≡ 24 → IsFrame 24 (byteOf
 unfolding IsFrame tabulate
 three-bytes d e = (d, refl, e, refl)
 
-of-decode : (d : PhaseDecode) → Says (frameOf (d .«bit_len») (d .«data»)) (Decode d)
-unfolding frameOf Says IsOther
+of-decode : (d : PhaseDecode) → SaysFrame (frameOf (d .«bit_len») (d .«data»)) (Decode d)
+unfolding frameOf SaysFrame IsOther
 of-decode d =
-    let P : SniffedFrame → Type 0 = λ frame. Says frame (Decode d) in
+    let P : SniffedFrame → Type 0 = λ frame. SaysFrame frame (Decode d) in
     cases P (eqb (d .«bit_len») 8) (λ e. one-byte d (eqb-true _ _ e)) (λ not-8.
     cases P (eqb (d .«bit_len») 16) (λ e. two-bytes d (eqb-true _ _ e)) (λ not-16.
     cases P (eqb (d .«bit_len») 24) (λ e. three-bytes d (eqb-true _ _ e)) (λ not-24.
     (d, refl, refl, eqb-false _ _ not-8, eqb-false _ _ not-16, eqb-false _ _ not-24))))
 
-says : (found : Found) → Says (sniffedOf found .frame) found
-unfolding sniffedOf Says
+says : (found : Found) → SaysFrame (sniffedOf found .frame) found
+unfolding sniffedOf SaysFrame
 says Nothing = refl
 says (Decode d) = of-decode d
 
 -- ---- the promises of the readings, from the results that they name
-pub tells : (found : Found) (r : SniffedDecode) → r ≡ sniffedOf found → (r ≡ sniffedOf found) × Says (r .frame) found
+pub tells : (found : Found) (r : SniffedDecode) → r ≡ sniffedOf found → (r ≡ sniffedOf found) × SaysFrame (r .frame) found
 tells found r e = (e, rw e (says found))
 
-pub tells-frame : (found : Found) (r : SniffedFrame) → r ≡ sniffedOf found .frame → (r ≡ sniffedOf found .frame) × Says r found
+pub tells-frame : (found : Found) (r : SniffedFrame) → r ≡ sniffedOf found .frame → (r ≡ sniffedOf found .frame) × SaysFrame r found
 tells-frame found r e = (e, rw e (says found))
 
 -- ---- the backward byte

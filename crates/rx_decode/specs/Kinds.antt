@@ -21,12 +21,12 @@ unfoldable pub IsOther : ℕ → Found → Type 0
 IsOther bits found = (d : PhaseDecode) × (found ≡ Decode d) × (d .«bit_len» ≡ bits) × (bits ≡ 8 → ⊥) × (bits ≡ 16 → ⊥) × (bits ≡ 24 → ⊥)
 
 -- what each kind says of the decode that it was read from
-unfoldable pub Says : SniffedFrame → Found → Type 0
-Says (Backward8 byte) found = IsFrame 8 (byte ∷ []) found
-Says (Forward16 word) found = IsFrame 16 (word / 256 ∷ word % 256 ∷ []) found
-Says (Forward24 first second third) found = IsFrame 24 (first ∷ second ∷ third ∷ []) found
-Says (UnsupportedLength bits) found = IsOther bits found
-Says DecodeFailed found = found ≡ Nothing
+unfoldable pub SaysFrame : SniffedFrame → Found → Type 0
+SaysFrame (Backward8 byte) found = IsFrame 8 (byte ∷ []) found
+SaysFrame (Forward16 word) found = IsFrame 16 (word / 256 ∷ word % 256 ∷ []) found
+SaysFrame (Forward24 first second third) found = IsFrame 24 (first ∷ second ∷ third ∷ []) found
+SaysFrame (UnsupportedLength bits) found = IsOther bits found
+SaysFrame DecodeFailed found = found ≡ Nothing
 
 -- and what a backward byte says, or that there is none
 unfoldable pub SaysByte : BackwardByte → Found → Type 0

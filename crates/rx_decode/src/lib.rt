@@ -2,7 +2,7 @@
 ghost use mathlib.Core.Path.{_≡_};
 ghost use Prim.Native.Nat.{_≤_};
 ghost use Rattle.rx_decode.specs.Reading.{byteOf, frameOf, sniffedOf, searchedIn, foundIn, byteIn, lowRunOf, heldOf};
-ghost use Rattle.rx_decode.specs.Kinds.{Says, SaysByte};
+ghost use Rattle.rx_decode.specs.Kinds.{SaysFrame, SaysByte};
 ghost use Rattle.rx_decode.specs.Code.{afterTick, afterByte};
 ghost use Rattle.lengths.specs.Lengths.{backwardLengths};
 use event::IsrDecode;
@@ -59,7 +59,7 @@ pub fn decode_backward_byte(ev: RxCompletedEvent) -> BackwardByte
 
 pub fn decode_sniffed(ev: RxCompletedEvent) -> SniffedFrame
     ensures { λ r. ⌜ r ≡ sniffedOf (foundIn ev) .frame ⌝ }
-    ensures { λ r. ⌜ Says r (foundIn ev) ⌝ }
+    ensures { λ r. ⌜ SaysFrame r (foundIn ev) ⌝ }
 {
     let decode = decode_sniffed_with_phase(ev);
     decode.frame
@@ -67,7 +67,7 @@ pub fn decode_sniffed(ev: RxCompletedEvent) -> SniffedFrame
 
 pub fn decode_sniffed_with_phase(ev: RxCompletedEvent) -> SniffedDecode
     ensures { λ r. ⌜ r ≡ sniffedOf (foundIn ev) ⌝ }
-    ensures { λ r. ⌜ Says (r .frame) (foundIn ev) ⌝ }
+    ensures { λ r. ⌜ SaysFrame (r .frame) (foundIn ev) ⌝ }
 {
     let found = found_in(ev);
     let Found::Decode(result) = found else {
@@ -99,7 +99,7 @@ fn found_in(ev: RxCompletedEvent) -> Found
 pub fn longest_dominant_run_ticks(ev: RxCompletedEvent) -> u16
     ensures { λ r. ⌜ r ≡ lowRunOf ev ⌝ }
 {
-    let n = window::kept(ev.sample_count);
+    let n = window::samples_kept(ev.sample_count);
     let samples = ev.samples;
     let mut runs = LowRuns { best: 0, run: 0 };
     let mut i: usize = 0;

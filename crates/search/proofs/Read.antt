@@ -10,7 +10,7 @@ use Rattle.laws.proofs.Picked.{cases}
 use Rattle.lengths.specs.declared.BitLengths.{BitLengths}
 use Rattle.window.specs.declared.SampleWindow.{SampleWindow}
 use Rattle.window.specs.declared.PhaseDecode.{PhaseDecode}
-use Rattle.window.specs.Phase.{PhaseBits, held, bits, bitsOf, decodeOf, phaseOf}
+use Rattle.window.specs.Phase.{PhaseBits, held, weighed, bitsOf, decodeOf, phaseOf}
 use Rattle.search.specs.declared.Found.{Found}
 use Rattle.search.specs.declared.Found.the-variants.{Decode, Nothing}
 use Rattle.search.specs.declared.SearchAnswer.{SearchAnswer}
@@ -18,8 +18,8 @@ use Rattle.search.specs.declared.PhaseSearch.{PhaseSearch}
 use Rattle.search.specs.declared.PhaseSearch.the-variants.{Done}
 use Rattle.search.specs.declared.BestPhaseSearch.{BestPhaseSearch}
 use Rattle.search.specs.declared.Stepped.{Stepped}
-use Rattle.search.specs.Search.{isPreferred, keptOf, betterOf, newOf, firstOf, endedOf, scannedOf, scanPhases, scanPhase, stepOf}
-use Rattle.search.specs.Answers.{endsAtOnce, endsWith, bestOf, phasesLeft, SaysFound, SaysAnswer, Says}
+use Rattle.search.specs.Search.{isPreferred, keptBetter, betterOf, newOf, firstOf, endedOf, scannedOf, scanPhases, scanPhase, stepOf}
+use Rattle.search.specs.Answers.{endsAtOnce, endsWith, bestOf, phasesLeft, SaysFound, SaysAnswer, SaysStep}
 use Rattle.search.specs.Steps.{afterSteps, DecodesAreRead}
 use Rattle.search.proofs.Telling.{same-decode, none-such, says}
 
@@ -30,7 +30,7 @@ own-phase w most phase = go (bitsOf w most phase)
   where
     go : (r : PhaseBits) → decodeOf phase r .«phase_ticks» ≡ phase
     go held = refl
-    go (bits weights) = refl
+    go (weighed weights) = refl
 
 dropped : {phase : ℤ} (n : ℕ) (phases : List ℤ) → List·Memᴰ phase (drop n phases) → List·Memᴰ phase phases
 dropped zero phases h = h
@@ -59,8 +59,8 @@ module _ (P : PhaseDecode → Type 0) where
   nothing : Kept Nothing
   nothing d e = none-such d e
 
-  of-kept : (m : BitLengths) (best : Found) (d : PhaseDecode) → Kept best → P d → Kept (keptOf best d m)
-  unfolding keptOf
+  of-kept : (m : BitLengths) (best : Found) (d : PhaseDecode) → Kept best → P d → Kept (keptBetter best d m)
+  unfolding keptBetter
   of-kept m Nothing d k p = cases Kept (eqb (d .«bit_len») 0) (λ e. k) (λ e. just d p)
   of-kept m (Decode b) d k p = cases Kept (eqb (d .«bit_len») 0) (λ e. k) (λ e. cases Kept (betterOf d b m) (λ e. just d p) (λ e. k))
 
@@ -88,7 +88,7 @@ module _ (P : PhaseDecode → Type 0) where
       cases Kept (endsAtOnce s w) (λ e. just _ first) (λ e. of-phases (s .preferred) w (s .best) (phasesLeft s) k (λ phase h. all phase (dropped (s .step - 1) scanPhases h)))
 
 pub decodes-are-read : DecodesAreRead
-unfolding Says SaysFound
+unfolding SaysStep SaysFound
 decodes-are-read m ws w a d answered found =
     let s = afterSteps (newOf m) ws in
     let told = rw answered at (says s w) in

@@ -15,7 +15,7 @@ use Rattle.window.specs.Phase.{phaseOf, bitsOf, bitsFrom, weightAround, strideA
 use Rattle.search.specs.declared.Found.the-variants.{Decode}
 use Rattle.search.specs.declared.SearchAnswer.{SearchAnswer}
 use Rattle.search.specs.declared.PhaseSearch.the-variants.{Done}
-use Rattle.search.specs.Search.{acceptedOf, firstOf, endedOf, scannedOf, scanPhase, keptOf, betterOf, higherOf, newOf, stepOf}
+use Rattle.search.specs.Search.{acceptedOf, firstOf, endedOf, scannedOf, scanPhase, keptBetter, betterOf, higherOf, newOf, stepOf}
 use Rattle.search.specs.Steps.{afterSteps}
 
 abbrev lengths : BitLengths
@@ -37,5 +37,5 @@ abbrev fifth : SearchAnswer
 fifth = record { found = Decode (record { «bit_len» = 8; «phase_ticks» = negsuc 0; score = 218; «data» = 0x0100000000000000 }); steps = 5 }
 
 pub done-at-the-fifth : stepOf (afterSteps (newOf lengths) (replicate 4 wave)) wave .answer ≡ Done fifth
-unfolding stepOf afterSteps firstOf endedOf scannedOf scanPhase keptOf betterOf higherOf acceptedOf phaseOf bitsOf bitsFrom weightAround strideAround strideOf lengthOf scoreOf dataOf decodeOf windowOf tickAt levelBefore peekAt weightOf folded halfWeight bitWeight holds setOf withLengths withLength packed pick
+unfolding stepOf afterSteps firstOf endedOf scannedOf scanPhase keptBetter betterOf higherOf acceptedOf phaseOf bitsOf bitsFrom weightAround strideAround strideOf lengthOf scoreOf dataOf decodeOf windowOf tickAt levelBefore peekAt weightOf folded halfWeight bitWeight holds setOf withLengths withLength packed pick
 done-at-the-fifth = refl

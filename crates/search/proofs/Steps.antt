@@ -21,7 +21,7 @@ use Rattle.search.specs.declared.SearchAnswer.{SearchAnswer}
 use Rattle.search.specs.declared.PhaseSearch.the-variants.{Searching, Done}
 use Rattle.search.specs.declared.BestPhaseSearch.{BestPhaseSearch}
 use Rattle.search.specs.declared.Stepped.{Stepped}
-use Rattle.search.specs.Search.{isPreferred, keptOf, searchWith, done, stepped, firstOf, endedOf, scannedOf, scanPhase, stepOf}
+use Rattle.search.specs.Search.{isPreferred, keptBetter, searchWith, done, stepped, firstOf, endedOf, scannedOf, scanPhase, stepOf}
 
 pub scan-back : (k : ℕ) → toZ w8 (ofZ w8 (scanPhase k)) ≡ scanPhase k
 unfolding scanPhase
@@ -101,7 +101,7 @@ unfolding scannedOf endedOf pick
 scan-took s d h = go (ltb (s .step) 4) refl
   where
     next : BestPhaseSearch
-    next = searchWith (s .preferred) (s .step + 1) (keptOf (s .best) d (s .preferred))
+    next = searchWith (s .preferred) (s .step + 1) (keptBetter (s .best) d (s .preferred))
 
     go : (t : Bool) → ltb (s .step) 4 ≡ t → Took (s .step) (pick t (stepped next Searching) (stepped next (done (next .best) 5)))
     go true e = searching-took (s .step) next (omega arith) (ltb-true (s .step) 4 e)

@@ -21,7 +21,7 @@ use Rattle.search.specs.declared.PhaseSearch.the-variants.{Searching, Do
 use Rattle.search.specs.declared.BestPhaseSearch.{BestPhaseSearch}
 use Rattle.search.specs.declared.Stepped.{Stepped}
 use Rattle.search.specs.Search.{isPreferred, acceptedOf, searchWith, done, firstOf, endedOf, scannedOf, scanPhases, scanPhase, stepOf, firstDone, runOf}
-use Rattle.search.specs.Answers.{endsAtOnce, endsWith, bestOf, SaysFound, SaysAnswer, isOver, Says}
+use Rattle.search.specs.Answers.{endsAtOnce, endsWith, bestOf, SaysFound, SaysAnswer, isOver, SaysStep}
 use Rattle.search.proofs.Steps.{firstBy, ended-step}
 use Rattle.search.proofs.Runs.{wholeOf, five-suffice, run-whole}
 
@@ -44,8 +44,8 @@ says-whole : (s : BestPhaseSearch) (w : SampleWindow) → SaysAnswer (wholeOf s 
 says-whole s w = record { found-is = says-found (endsWith s w); steps-are = refl }
 
 -- ---- a step
-past : (s : BestPhaseSearch) (w : SampleWindow) → 4 < s .step → Says (stepOf s w .answer) s w
-unfolding Says endedOf endsWith bestOf pick
+past : (s : BestPhaseSearch) (w : SampleWindow) → 4 < s .step → SaysStep (stepOf s w .answer) s w
+unfolding SaysStep endedOf endsWith bestOf pick
 past s w h =
     rw (ended-step s w h) (
       rw (ne-eqb (s .step) 0 (omega arith), le-leb 4 (s .step) (omega arith)),
@@ -56,13 +56,13 @@ past s w h =
     )
 
 module _ (m : BitLengths) (best : Found) (w : SampleWindow) where
-  at-first : (t : Bool) → isPreferred m (phaseOf w 32 (pos 0)) ≡ t → Says (firstBy m best w t .answer) (searchWith m 0 best) w
-  unfolding Says endsWith pick
+  at-first : (t : Bool) → isPreferred m (phaseOf w 32 (pos 0)) ≡ t → SaysStep (firstBy m best w t .answer) (searchWith m 0 best) w
+  unfolding SaysStep endsWith pick
   at-first true e = (rw e, record { found-is = rw e (says-found (Decode (phaseOf w 32 (pos 0)))); steps-are = rw e })
   at-first false e = rw e
 
-  by-step : (k : ℕ) → let s = searchWith m k best in Says (stepOf s w .answer) s w
-  unfolding Says stepOf firstOf scannedOf endedOf scanPhase endsWith bestOf pick
+  by-step : (k : ℕ) → let s = searchWith m k best in SaysStep (stepOf s w .answer) s w
+  unfolding SaysStep stepOf firstOf scannedOf endedOf scanPhase endsWith bestOf pick
   by-step zero = at-first (isPreferred m (phaseOf w 32 (pos 0))) refl
   by-step (suc zero) = refl
   by-step (suc (suc zero)) = refl
@@ -70,11 +70,11 @@ module _ (m : BitLengths) (best : Found) (w : SampleWindow) where
   by-step (suc (suc (suc (suc zero)))) = (refl, says-whole (searchWith m 4 best) w)
   by-step (suc (suc (suc (suc (suc k))))) = past (searchWith m (suc (suc (suc (suc (suc k))))) best) w (omega arith)
 
-pub says : (s : BestPhaseSearch) (w : SampleWindow) → Says (stepOf s w .answer) s w
+pub says : (s : BestPhaseSearch) (w : SampleWindow) → SaysStep (stepOf s w .answer) s w
 says s w = by-step (s .preferred) (s .best) w (s .step)
 
 -- ---- the promises, from the results that they name
-pub tells : (s : BestPhaseSearch) (w : SampleWindow) (r : Stepped) → r ≡ stepOf s w → (r ≡ stepOf s w) × Says (r .answer) s w
+pub tells : (s : BestPhaseSearch) (w : SampleWindow) (r : Stepped) → r ≡ stepOf s w → (r ≡ stepOf s w) × SaysStep (r .answer) s w
 tells s w r e = (e, rw e (says s w))
 
 pub tells-run : (s : BestPhaseSearch) (w : SampleWindow) (r : SearchAnswer) → r ≡ runOf s w → (r ≡ runOf s w) × ((firstDone 5 s w ≡ Done r) × SaysAnswer r s w)

@@ -17,7 +17,7 @@ use Rattle.search.specs.declared.SearchAnswer.{SearchAnswer}
 use Rattle.search.specs.declared.PhaseSearch.{PhaseSearch}
 use Rattle.search.specs.declared.PhaseSearch.the-variants.{Searching, Done}
 use Rattle.search.specs.declared.BestPhaseSearch.{BestPhaseSearch}
-use Rattle.search.specs.Search.{isPreferred, keptOf, scanPhases}
+use Rattle.search.specs.Search.{isPreferred, keptBetter, scanPhases}
 
 -- ---- what a search ends with
 -- Phase 0 ends it at once: as its first step, and if the length is preferred.
@@ -27,7 +27,7 @@ endsAtOnce s w = eqb (s .step) 0 && isPreferred (s .preferred) (phaseOf w 32 (po
 -- what is kept of the best so far and of the decodes at some phases, one after the other
 unfoldable pub bestOf : BitLengths → SampleWindow → Found → List ℤ → Found
 bestOf m w best [] = best
-bestOf m w best (phase ∷ phases) = bestOf m w (keptOf best (phaseOf w 32 phase) m) phases
+bestOf m w best (phase ∷ phases) = bestOf m w (keptBetter best (phaseOf w 32 phase) m) phases
 
 -- the phases of the scan that are still to be read
 abbrev pub phasesLeft : BestPhaseSearch → List ℤ
@@ -53,6 +53,6 @@ pub record SaysAnswer (answer : SearchAnswer) (s : BestPhaseSearch) (w : SampleW
 abbrev pub isOver : BestPhaseSearch → SampleWindow → Bool
 isOver s w = endsAtOnce s w || leb 4 (s .step)
 
-unfoldable pub Says : PhaseSearch → BestPhaseSearch → SampleWindow → Type 0
-Says Searching s w = isOver s w ≡ false
-Says (Done answer) s w = (isOver s w ≡ true) × SaysAnswer answer s w
+unfoldable pub SaysStep : PhaseSearch → BestPhaseSearch → SampleWindow → Type 0
+SaysStep Searching s w = isOver s w ≡ false
+SaysStep (Done answer) s w = (isOver s w ≡ true) × SaysAnswer answer s w

@@ -36,9 +36,9 @@ betterOf candidate current preferred =
     pick (Bool·beq (isPreferred preferred candidate) (isPreferred preferred current)) (higherOf candidate current) (isPreferred preferred candidate)
 
 -- What is kept once a candidate was seen. An empty one is passed over, and one that does not win changes nothing.
-unfoldable pub keptOf : Found → PhaseDecode → BitLengths → Found
-keptOf Nothing candidate preferred = pick (eqb (candidate .«bit_len») 0) Nothing (Decode candidate)
-keptOf (Decode current) candidate preferred =
+unfoldable pub keptBetter : Found → PhaseDecode → BitLengths → Found
+keptBetter Nothing candidate preferred = pick (eqb (candidate .«bit_len») 0) Nothing (Decode candidate)
+keptBetter (Decode current) candidate preferred =
     pick (eqb (candidate .«bit_len») 0) (Decode current)
     (pick (betterOf candidate current preferred) (Decode candidate) (Decode current))
 
@@ -74,7 +74,7 @@ endedOf s = stepped s (done (s .best) 5)
 -- Steps two to five are the scan: each reads one phase and keeps the winner, and the fifth says Done.
 unfoldable pub scannedOf : BestPhaseSearch → PhaseDecode → Stepped
 scannedOf s d =
-    let next = searchWith (s .preferred) (s .step + 1) (keptOf (s .best) d (s .preferred)) in
+    let next = searchWith (s .preferred) (s .step + 1) (keptBetter (s .best) d (s .preferred)) in
     pick (ltb (s .step) 4) (stepped next Searching) (endedOf next)
 
 -- the phases of the scan in their order: -2, -1, 1 and 2 (`negsuc n` is -(n + 1))

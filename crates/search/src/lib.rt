@@ -2,8 +2,8 @@
 ghost use mathlib.Core.Path.{_≡_};
 ghost use Prim.Native.Nat.{_≤_, _<_};
 ghost use lib.IntN.{natAbs};
-ghost use Rattle.search.specs.Search.{scanPhase, higherOf, betterOf, keptOf, acceptedOf, newOf, firstOf, endedOf, scannedOf, stepOf, firstDone, runOf};
-ghost use Rattle.search.specs.Answers.{SaysAnswer, Says};
+ghost use Rattle.search.specs.Search.{scanPhase, higherOf, betterOf, keptBetter, acceptedOf, newOf, firstOf, endedOf, scannedOf, stepOf, firstDone, runOf};
+ghost use Rattle.search.specs.Answers.{SaysAnswer, SaysStep};
 ghost use Rattle.search.specs.Constants.{publicConstants};
 use lengths::BitLengths;
 use window::PhaseDecode;
@@ -110,7 +110,7 @@ impl BestPhaseSearch {
 
     pub fn step(self, window: SampleWindow) -> Stepped
         ensures { λ r. ⌜ r ≡ stepOf self window ⌝ }
-        ensures { λ r. ⌜ Says (r .answer) self window ⌝ }
+        ensures { λ r. ⌜ SaysStep (r .answer) self window ⌝ }
     {
         let step = self.step;
         if step == 0 {
@@ -155,7 +155,7 @@ impl BestPhaseSearch {
         let preferred = self.preferred;
         let step = self.step;
         let current = self.best;
-        let best = kept(current, candidate, preferred);
+        let best = keep_better(current, candidate, preferred);
         let search = BestPhaseSearch {
             preferred,
             step: step + 1,
@@ -199,8 +199,8 @@ impl BestPhaseSearch {
 }
 
 // What is kept of the best so far and a candidate. An empty candidate doesn't count.
-fn kept(best: Found, candidate: PhaseDecode, preferred: BitLengths) -> Found
-    ensures { λ r. ⌜ r ≡ keptOf best candidate preferred ⌝ }
+fn keep_better(best: Found, candidate: PhaseDecode, preferred: BitLengths) -> Found
+    ensures { λ r. ⌜ r ≡ keptBetter best candidate preferred ⌝ }
 {
     if candidate.bit_len == 0 {
         return best;

@@ -16,17 +16,17 @@ use Rattle.halfbits.specs.Wave.{low}
 use Rattle.machine.specs.declared.BusState.{BusState}
 use Rattle.machine.specs.declared.BusState.the-variants as bus
 use Rattle.machine.specs.declared.TxHb.{TxHb}
-use Rattle.machine.specs.Runs.{heardOf}
+use Rattle.machine.specs.Runs.{runsCounted}
 use Rattle.machine.specs.BecomingIdle.{idled}
 use Rattle.machine.specs.Idle.{idleTick, entered, silent, fell}
-use Rattle.machine.specs.Sending.{storeOf, armedStep, Step, Arm, Yield, Drive, clashOf, releasesAt, txStep, armed, yielded, driven, stepped}
+use Rattle.machine.specs.Sending.{txHbOf, armedStep, Step, Arm, Yield, Drive, clashOf, releasesAt, txStep, armed, yielded, driven, afterStep}
 use Rattle.machine.specs.Starting.{loaded}
 use Rattle.fsm.specs.declared.DaliBitbangPhy.{DaliBitbangPhy}
 use Rattle.fsm.specs.declared.Started.{Started}
 use Rattle.fsm.specs.declared.StartAnswer.{StartAnswer}
 use Rattle.fsm.specs.declared.StartAnswer.the-variants as start
 use Rattle.fsm.specs.Station.{withCore}
-use Rattle.fsm.specs.Ticking.{actOf, tickOf}
+use Rattle.fsm.specs.Ticking.{tickIn, tickOf}
 use Rattle.machine.specs.States.{isIdle, hears}
 use Rattle.fsm.specs.Starting.{lengthFits, startedWith, loadedWith, started, startTx, startAnswer}
 use Rattle.fsm.specs.Polling.{polled}
@@ -76,7 +76,7 @@ record Waits (hb : HalfBitBuffer) (answer : Bool) (n : ℕ) (t : DaliBitbangPhy)
   none : t .core .tx .«tx_hb_cnt» ≡ 0
   fresh : t .core .tx .«tx_sp_cnt» ≡ 0
   kind : t .core .tx .«tx_answer» ≡ answer
-  store : t .«tx_hb» ≡ storeOf hb
+  store : t .«tx_hb» ≡ txHbOf hb
 
 waits : (s : DaliBitbangPhy) (hb : HalfBitBuffer) (answer : Bool) → drives s ≡ true → Waits hb answer 0 (loadedWith s hb answer)
 unfolding loadedWith loaded
@@ -103,7 +103,7 @@ module _ (hb : HalfBitBuffer) (answer : Bool) where
       }
 
   module _ (n : ℕ) (t : DaliBitbangPhy) (h : Waits hb answer n t) (b : Bool) where
-    by : (x : Step) → txStep (t .core .tx) (t .core .«collision_policy») (t .«tx_hb») b ≡ x → tickOf t b ≡ withCore t (stepped x (heardOf (t .core) b))
+    by : (x : Step) → txStep (t .core .tx) (t .core .«collision_policy») (t .«tx_hb») b ≡ x → tickOf t b ≡ withCore t (afterStep x (runsCounted (t .core) b))
     by = tick-by t b (h .sending)
 
     module _ (few : n < 3) where
@@ -114,7 +114,7 @@ module _ (hb : HalfBitBuffer) (answer : Bool) where
           simp (on-true (ap not (ne-eqb _ _ some)))
 
       waits-on : txStep (t .core .tx) (t .core .«collision_policy») (t .«tx_hb») b ≡ Arm → Waits hb answer (suc n) (tickOf t b)
-      unfolding stepped armed heardOf
+      unfolding afterStep armed runsCounted
       waits-on e =
           rw (by Arm e)
           (record { sending = h .sending; left = omega (arith, h .left); released = h .released; none = h .none; fresh = h .fresh; kind = h .kind; store = h .store })
@@ -130,7 +130,7 @@ module _ (hb : HalfBitBuffer) (answer : Bool) where
     module _ (last : n ≡ 3) (some : 0 < hb .length) where
       drive : txStep (t .core .tx) (t .core .«collision_policy») (t .«tx_hb») b
           ≡ Drive (releasesAt (t .«tx_hb») (t .core .tx .«tx_hb_cnt»))
-      unfolding txStep storeOf
+      unfolding txStep txHbOf
       drive =
           let unarmed : t .core .tx .«tx_armed» ≡ 0 = omega (arith, h .left) in
           let more : t .core .tx .«tx_hb_cnt» < t .«tx_hb» .«tx_hb_len» = rw (h .store) (omega (arith, h .none)) in
@@ -138,7 +138,7 @@ module _ (hb : HalfBitBuffer) (answer : Bool) where
           simp (on-false (ap not (eq-eqb _ _ unarmed)), on-false (lt-leb _ _ more), on-false calm, on-false (ap not (eq-eqb _ _ (h .fresh))), on-false (lt-leb _ _ early))
 
       begins : Begins t b
-      unfolding stepped driven heardOf
+      unfolding afterStep driven runsCounted
       begins = record { sending = h .sending; one-more = ap (λ (u : DaliBitbangPhy). u .core .tx .«tx_hb_cnt») (by (Drive _) drive) ∙ rw (h .none) }
 
   -- what is to be shown of n ticks
@@ -150,8 +150,8 @@ module _ (hb : HalfBitBuffer) (answer : Bool) where
   }
 
 -- a low tick yields
-yield-left : (t : DaliBitbangPhy) → Yields (withCore t (stepped Yield (heardOf (t .core) false)))
-unfolding stepped yielded idled idleTick silent fell entered heardOf polled tickOf actOf pick
+yield-left : (t : DaliBitbangPhy) → Yields (withCore t (afterStep Yield (runsCounted (t .core) false)))
+unfolding afterStep yielded idled idleTick silent fell entered runsCounted polled tickOf tickIn pick
 yield-left t = record { first-low = record { idle = refl; second = refl }; told = refl }
 
 yields : (hb : HalfBitBuffer) (n : ℕ) (t : DaliBitbangPhy) → Waits hb false n t → n < 3 → Yields (tickOf t false)

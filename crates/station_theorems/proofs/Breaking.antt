@@ -14,19 +14,19 @@ use Rattle.machine.specs.declared.BusState.{BusState}
 use Rattle.machine.specs.declared.BusState.the-variants as bus
 use Rattle.machine.specs.declared.Core.{Core}
 use Rattle.machine.specs.Fields.{withDrivenHigh, withTxCollision, withTxSpCnt}
-use Rattle.machine.specs.Runs.{heardOf}
+use Rattle.machine.specs.Runs.{runsCounted}
 use Rattle.machine.specs.BecomingIdle.{idled}
 use Rattle.machine.specs.Idle.{idleTick, entered, silent, fell}
-use Rattle.machine.specs.Sending.{Step, Arm, Yield, End, Clash, Hold, Drive, txStep, armed, yielded, clashed, held, driven, stepped, txTick}
+use Rattle.machine.specs.Sending.{Step, Arm, Yield, End, Clash, Hold, Drive, txStep, armed, yielded, clashed, held, driven, afterStep, txTick}
 use Rattle.machine.specs.Collision.{broke, collisionTick}
 use Rattle.fsm.specs.declared.DaliBitbangPhy.{DaliBitbangPhy}
 use Rattle.fsm.specs.declared.Started.{Started}
 use Rattle.fsm.specs.declared.TxPollResult.the-variants.{Ok}
 use Rattle.fsm.specs.Station.{withCore}
-use Rattle.fsm.specs.Ticking.{actOf, tickOf}
+use Rattle.fsm.specs.Ticking.{tickIn, tickOf}
 use Rattle.machine.specs.States.{isIdle, hears, isTx}
 use Rattle.fsm.specs.Starting.{startTx, startAnswer}
-use Rattle.fsm.specs.Refusals.{numberOf}
+use Rattle.fsm.specs.Refusals.{startAnswerNumber}
 use Rattle.fsm.specs.Polling.{polled}
 use Rattle.fsm.specs.Calls.{tookIdle}
 use Rattle.station_theorems.specs.Calls.{Call, after, afterAll, Reached, called, tick}
@@ -47,8 +47,8 @@ pub record At (n : ℕ) (t : DaliBitbangPhy) : Type 0 where
   pub driving : 1 ≤ n → drives t ≡ ltb 12 n
 
 -- the tick that sees the clash: no other step leaves Tx for Collision
-clash-alone : (x : Step) (c : Core) → c .bus .«bus_state» ≡ bus.Tx → stepped x c .bus .«bus_state» ≡ bus.CollisionTx → stepped x c .tx .«tx_sp_cnt» ≡ 0
-unfolding stepped armed yielded clashed held driven idled idleTick silent fell pick
+clash-alone : (x : Step) (c : Core) → c .bus .«bus_state» ≡ bus.Tx → afterStep x c .bus .«bus_state» ≡ bus.CollisionTx → afterStep x c .tx .«tx_sp_cnt» ≡ 0
+unfolding afterStep armed yielded clashed held driven idled idleTick silent fell pick
 clash-alone Arm c e f = absurd (sending-not-breaking (sym e ∙ f))
 clash-alone Yield c e f = absurd (idle-not-breaking f)
 clash-alone End c e f = absurd (idle-not-breaking f)
@@ -57,7 +57,7 @@ clash-alone Hold c e f = absurd (sending-not-breaking (sym e ∙ f))
 clash-alone (Drive high) c e f = absurd (sending-not-breaking (sym e ∙ f))
 
 pub begins : (s : DaliBitbangPhy) → Reached s → (level : Bool) → IsSending s → IsBreaking (tickOf s level) → At 0 (tickOf s level)
-unfolding txTick heardOf
+unfolding txTick runsCounted
 begins s r level sending clash = record {
   breaking = clash;
   passed = ap (λ (t : DaliBitbangPhy). t .core .tx .«tx_sp_cnt») e ∙ clash-alone x c sending (sym (ap (λ (t : DaliBitbangPhy). t .core .bus .«bus_state») e) ∙ clash);
@@ -66,40 +66,40 @@ begins s r level sending clash = record {
 }
   where
     c : Core
-    c = heardOf (s .core) level
+    c = runsCounted (s .core) level
 
     x : Step
     x = txStep (c .tx) (c .«collision_policy») (s .«tx_hb») level
 
-    e : tickOf s level ≡ withCore s (stepped x c)
+    e : tickOf s level ≡ withCore s (afterStep x c)
     e = tick-tx s level sending
 
     none : 1 ≤ 0 → ⊥
     none h = omega (arith, h)
 
 -- ---- the last tick
-sampled-there : (t : DaliBitbangPhy) (level : Bool) → Broke level (withCore t (broke (withTxSpCnt (heardOf (t .core) level) 14) level))
-unfolding broke idled idleTick silent fell entered tookIdle tickOf actOf heardOf pick
+sampled-there : (t : DaliBitbangPhy) (level : Bool) → Broke level (withCore t (broke (withTxSpCnt (runsCounted (t .core) level) 14) level))
+unfolding broke idled idleTick silent fell entered tookIdle tickOf tickIn runsCounted pick
 sampled-there t true = record { mark = refl; found-low = λ e. absurd (false≢true (sym e)); found-high = λ _. record { idle = refl; alone = refl } }
 sampled-there t false = record { mark = refl; found-low = λ _. record { idle = refl; second = refl }; found-high = λ e. absurd (false≢true e) }
 
 -- ---- a tick of it
 module _ (n : ℕ) (t : DaliBitbangPhy) (breaking : IsBreaking t) (passed : t .core .tx .«tx_sp_cnt» ≡ n) (level : Bool) where
-  pub tick-on : n < 13 → tickOf t level ≡ withCore t (withDrivenHigh (withTxSpCnt (heardOf (t .core) level) (suc n)) (ltb 12 (suc n)))
-  unfolding collisionTick heardOf
+  pub tick-on : n < 13 → tickOf t level ≡ withCore t (withDrivenHigh (withTxSpCnt (runsCounted (t .core) level) (suc n)) (ltb 12 (suc n)))
+  unfolding collisionTick runsCounted
   tick-on few =
       let now : (t .core .tx .«tx_sp_cnt» + 1) % 256 ≡ suc n = omega arith in
       tick-break t level breaking ∙ rw now (simp (on-false (lt-leb 14 (suc n) (omega arith))))
 
-  tick-last : n ≡ 13 → tickOf t level ≡ withCore t (broke (withTxSpCnt (heardOf (t .core) level) 14) level)
-  unfolding collisionTick heardOf
+  tick-last : n ≡ 13 → tickOf t level ≡ withCore t (broke (withTxSpCnt (runsCounted (t .core) level) 14) level)
+  unfolding collisionTick runsCounted
   tick-last last =
       let now : (t .core .tx .«tx_sp_cnt» + 1) % 256 ≡ 14 = omega arith in
       tick-break t level breaking ∙ rw now (simp (on-true (le-leb 14 14 (omega arith))))
 
 module _ (n : ℕ) (t : DaliBitbangPhy) (h : At n t) (level : Bool) where
   pub goes-on : n < 13 → At (suc n) (tickOf t level)
-  unfolding heardOf
+  unfolding runsCounted
   goes-on few =
       rw (tick-on n t (h .breaking) (h .passed) level few)
       (record { breaking = h .breaking; passed = refl; waits = λ e. absurd (let no : ⊥ = omega arith in no); driving = λ _. refl })
@@ -129,10 +129,10 @@ polled-ok t calm e = go (eqb (t .core .told .«tx_collision») 0) refl
     go true none = rw (untold t calm e none) (clear-ok t calm (eqb-true _ _ none) e)
     go false some = rw (told t calm some) (clear-ok _ calm refl e)
 
-refused : (t : DaliBitbangPhy) → IsBreaking t → (hb : HalfBitBuffer) → (numberOf (startTx t hb .answer) ≡ 7) × (numberOf (startAnswer t hb .answer) ≡ 7)
+refused : (t : DaliBitbangPhy) → IsBreaking t → (hb : HalfBitBuffer) → (startAnswerNumber (startTx t hb .answer) ≡ 7) × (startAnswerNumber (startAnswer t hb .answer) ≡ 7)
 unfolding isIdle hears
 refused t e hb =
-    (ap (λ (x : Started). numberOf (x .answer)) (tx-refused t hb (ap isIdle e)), ap (λ (x : Started). numberOf (x .answer)) (answer-refused t hb (ap hears e)))
+    (ap (λ (x : Started). startAnswerNumber (x .answer)) (tx-refused t hb (ap isIdle e)), ap (λ (x : Started). startAnswerNumber (x .answer)) (answer-refused t hb (ap hears e)))
 
 -- nothing is yielded while it lasts
 calm : (t : DaliBitbangPhy) → Reached t → IsBreaking t → t .core .told .«tx_yielded» ≡ false
@@ -140,7 +140,7 @@ unfolding In
 calm t r e =
     let c : Core = t .core in
     let i : In bus.CollisionTx (c .runs) (c .bus) (c .rx) (c .told) = subst (λ (b : BusState). In b (c .runs) (c .bus) (c .rx) (c .told)) e (reached-whole t r .core .state) in
-    i .kept
+    i .unyielded
 
 -- ---- any calls from the clash on
 deaf : (n : ℕ) (s : DaliBitbangPhy) → At n s → hears (s .core .bus .«bus_state») ≡ false

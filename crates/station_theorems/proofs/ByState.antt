@@ -3,37 +3,37 @@ use mathlib.Core.Bool.{Bool, false≢true}
 use mathlib.Core.Path.{_≡_, sym, ap, _∙_}
 use Rattle.laws.specs.Pick.{pick}
 use Rattle.machine.specs.declared.BusState.the-variants as bus
-use Rattle.machine.specs.Runs.{heardOf}
+use Rattle.machine.specs.Runs.{runsCounted}
 use Rattle.machine.specs.Idle.{idleTick}
-use Rattle.machine.specs.Sending.{Step, txStep, stepped, txTick}
+use Rattle.machine.specs.Sending.{Step, txStep, afterStep, txTick}
 use Rattle.machine.specs.Collision.{collisionTick}
 use Rattle.fsm.specs.declared.DaliBitbangPhy.{DaliBitbangPhy}
 use Rattle.fsm.specs.Station.{withCore}
 use Rattle.fsm.specs.Rx.{rxTick}
-use Rattle.fsm.specs.Ticking.{actOf, tickOf}
+use Rattle.fsm.specs.Ticking.{tickIn, tickOf}
 use Rattle.machine.specs.States.{isTx, isIdle}
 use Rattle.station_theorems.specs.Ticks.{IsIdle, IsCapturing, IsSending, IsBreaking}
 
 module _ (s : DaliBitbangPhy) (high : Bool) where
-  pub tick-idle : IsIdle s → tickOf s high ≡ withCore s (idleTick (heardOf (s .core) high) high)
-  unfolding tickOf actOf pick
+  pub tick-idle : IsIdle s → tickOf s high ≡ withCore s (idleTick (runsCounted (s .core) high) high)
+  unfolding tickOf tickIn pick
   tick-idle e = rw e
 
-  pub tick-rx : IsCapturing s → tickOf s high ≡ rxTick s (heardOf (s .core) high) high
-  unfolding tickOf actOf pick
+  pub tick-rx : IsCapturing s → tickOf s high ≡ rxTick s (runsCounted (s .core) high) high
+  unfolding tickOf tickIn pick
   tick-rx e = rw e
 
-  pub tick-tx : IsSending s → tickOf s high ≡ withCore s (txTick (heardOf (s .core) high) (s .«tx_hb») high)
-  unfolding tickOf actOf pick
+  pub tick-tx : IsSending s → tickOf s high ≡ withCore s (txTick (runsCounted (s .core) high) (s .«tx_hb») high)
+  unfolding tickOf tickIn pick
   tick-tx e = rw e
 
   pub tick-by : IsSending s → (x : Step) → txStep (s .core .tx) (s .core .«collision_policy») (s .«tx_hb») high ≡ x
-      → tickOf s high ≡ withCore s (stepped x (heardOf (s .core) high))
-  unfolding txTick heardOf
-  tick-by sending x e = tick-tx sending ∙ ap (λ (y : Step). withCore s (stepped y (heardOf (s .core) high))) e
+      → tickOf s high ≡ withCore s (afterStep x (runsCounted (s .core) high))
+  unfolding txTick runsCounted
+  tick-by sending x e = tick-tx sending ∙ ap (λ (y : Step). withCore s (afterStep y (runsCounted (s .core) high))) e
 
-  pub tick-break : IsBreaking s → tickOf s high ≡ withCore s (collisionTick (heardOf (s .core) high) high)
-  unfolding tickOf actOf pick
+  pub tick-break : IsBreaking s → tickOf s high ≡ withCore s (collisionTick (runsCounted (s .core) high) high)
+  unfolding tickOf tickIn pick
   tick-break e = rw e
 
 pub sending-not-breaking : bus.Tx ≡ bus.CollisionTx → ⊥

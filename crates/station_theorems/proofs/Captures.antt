@@ -12,10 +12,10 @@ use Rattle.laws.specs.Pick.{pick}
 use Rattle.laws.specs.Tabulate.{tabulate}
 use Rattle.laws.proofs.Tabulated.{length-tabulate}
 use Rattle.halfbits.specs.declared.HalfBitBuffer.{HalfBitBuffer}
-use Rattle.machine.specs.Runs.{heardOf}
+use Rattle.machine.specs.Runs.{runsCounted}
 use Rattle.machine.specs.Idle.{entered, idleTick, silent, fell}
 use Rattle.fsm.specs.declared.DaliBitbangPhy.{DaliBitbangPhy}
-use Rattle.fsm.specs.Ticking.{actOf, tickOf}
+use Rattle.fsm.specs.Ticking.{tickIn, tickOf}
 use Rattle.machine.specs.States.{isIdle}
 use Rattle.fsm.specs.Starting.{startTx}
 use Rattle.station_theorems.specs.Calls.{Call, tick, start-tx, start-answer, poll, take-idle, take-rx, acknowledge, policy, after, afterAll, isBetween, isAnswer, NoAnswer, Reached}
@@ -32,25 +32,25 @@ module _ (s : DaliBitbangPhy) (idle : IsIdle s) where
   none-yet e = record { idle = idle; alone = first-low s idle e .0 }
 
   one-yet : s .core .bus .«rx_debounce» ≡ 1 → OneLow s
-  unfolding tickOf actOf idleTick silent fell entered heardOf pick
+  unfolding tickOf tickIn idleTick silent fell entered runsCounted pick
   one-yet e = record { idle = idle; second = rw (idle, e) }
 
   after-high : NoLow (tickOf s true)
-  unfolding tickOf actOf idleTick silent fell heardOf pick
+  unfolding tickOf tickIn idleTick silent fell runsCounted pick
   after-high = rw idle (record { idle = refl; alone = refl })
 
   counted : idleCount (tickOf s true) ≡ min (idleCount s + 1) 65535
-  unfolding tickOf actOf idleTick silent fell heardOf pick
+  unfolding tickOf tickIn idleTick silent fell runsCounted pick
   counted = rw idle
 
   -- neither the first low tick nor the second changes the idle count
-  kept-first : s .core .bus .«rx_debounce» ≡ 0 → idleCount (tickOf s false) ≡ idleCount s
-  unfolding tickOf actOf idleTick silent fell heardOf pick
-  kept-first e = rw (idle, e)
+  not-reset-first : s .core .bus .«rx_debounce» ≡ 0 → idleCount (tickOf s false) ≡ idleCount s
+  unfolding tickOf tickIn idleTick silent fell runsCounted pick
+  not-reset-first e = rw (idle, e)
 
-  kept-second : s .core .bus .«rx_debounce» ≡ 1 → idleCount (tickOf s false) ≡ idleCount s
-  unfolding tickOf actOf idleTick silent fell entered heardOf pick
-  kept-second e = rw (idle, e)
+  not-reset-second : s .core .bus .«rx_debounce» ≡ 1 → idleCount (tickOf s false) ≡ idleCount s
+  unfolding tickOf tickIn idleTick silent fell entered runsCounted pick
+  not-reset-second e = rw (idle, e)
 
 module _ (s : DaliBitbangPhy) (r : Reached s) (idle : IsIdle s) where
   at-most : s .core .bus .«rx_debounce» ≤ 1
@@ -78,7 +78,7 @@ module _ (s : DaliBitbangPhy) (r : Reached s) (idle : IsIdle s) where
         after-high = after-high s idle;
         counted = counted s idle;
         after-low = λ n. one-yet (tickOf s false) (first-low s idle (quiet n) .0) (first-low s idle (quiet n) .1);
-        kept = kept-first s idle e;
+        not-reset = not-reset-first s idle e;
       }
   in-idle (no some) =
       let e : s .core .bus .«rx_debounce» ≡ 1 = omega (arith, some, at-most) in
@@ -87,7 +87,7 @@ module _ (s : DaliBitbangPhy) (r : Reached s) (idle : IsIdle s) where
         after-high = after-high s idle;
         counted = counted s idle;
         after-low = λ n. one-yet (tickOf s false) (first-low s idle (quiet n) .0) (first-low s idle (quiet n) .1);
-        kept = kept-second s idle e;
+        not-reset = not-reset-second s idle e;
       }
 
 pub idle-ticks : IdleTicks

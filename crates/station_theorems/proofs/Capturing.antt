@@ -21,13 +21,13 @@ use Rattle.capture.proofs.Kept.{whole, writes-one}
 use Rattle.machine.specs.declared.RxState.the-variants.{Completed}
 use Rattle.machine.specs.declared.Rx.{Rx}
 use Rattle.machine.specs.Fields.{withRx}
-use Rattle.machine.specs.Runs.{heardOf}
+use Rattle.machine.specs.Runs.{runsCounted}
 use Rattle.machine.specs.BecomingIdle.{idled}
 use Rattle.machine.specs.Idle.{entered, idleTick, silent, fell}
 use Rattle.fsm.specs.Rx.{shifted, highRun, sampled, filled, goesOn, finished, notified, wentOn, rxTick, noneSampled}
 use Rattle.fsm.specs.declared.DaliBitbangPhy.{DaliBitbangPhy}
 use Rattle.fsm.specs.Station.{lastBytes, lastCount, withCore, withRxData}
-use Rattle.fsm.specs.Ticking.{actOf, tickOf}
+use Rattle.fsm.specs.Ticking.{tickIn, tickOf}
 use Rattle.station_theorems.specs.Ticks.{IsIdle, IsCapturing, highsRunning}
 use Rattle.station_theorems.specs.OverTicks as over
 use Rattle.station_theorems.specs.OverTicks.{idleCount, captured, byteOf, Store, NoLow}
@@ -130,14 +130,14 @@ module _ (level : ℕ → Bool) where
 -- ---- a tick in Rx
 module _ (s : DaliBitbangPhy) (high : Bool) (in-rx : IsCapturing s) where
   tick-on : goesOn (sampled (s .core .rx) high) ≡ true
-      → tickOf s high ≡ withRxData (withCore s (withRx (heardOf (s .core) high) (sampled (s .core .rx) high))) (filled (s .«rx_data») (s .core .rx) high)
-  unfolding rxTick wentOn heardOf
+      → tickOf s high ≡ withRxData (withCore s (withRx (runsCounted (s .core) high) (sampled (s .core .rx) high))) (filled (s .«rx_data») (s .core .rx) high)
+  unfolding rxTick wentOn runsCounted
   tick-on e = tick-rx s high in-rx ∙ simp (on-true e)
 
   tick-end : goesOn (sampled (s .core .rx) high) ≡ false
       → tickOf s high
-      ≡ notified s (finished (heardOf (s .core) high) (sampled (s .core .rx) high)) (withByte (filled (s .«rx_data») (s .core .rx) high) (sampled (s .core .rx) high .«rx_pos») 255)
-  unfolding rxTick wentOn heardOf
+      ≡ notified s (finished (runsCounted (s .core) high) (sampled (s .core .rx) high)) (withByte (filled (s .«rx_data») (s .core .rx) high) (sampled (s .core .rx) high .«rx_pos») 255)
+  unfolding rxTick wentOn runsCounted
   tick-end e = tick-rx s high in-rx ∙ simp (on-false e)
 
 -- the silence before a capture stays with it
@@ -146,14 +146,14 @@ unfolding sampled
 pre-kept r high = cases (λ (x : Rx). x .«rx_pre_idle» ≡ r .«rx_pre_idle») (eqb (r .«rx_bit_cnt») 7) (λ _. refl) (λ _. refl)
 
 -- a station whose capture is over is Idle, and remembers no low
-at-rest : (s : DaliBitbangPhy) (high : Bool) (r : Rx) (samples : Samples) → NoLow (notified s (finished (heardOf (s .core) high) r) samples)
-unfolding notified finished idled heardOf tickOf actOf idleTick silent fell pick
+at-rest : (s : DaliBitbangPhy) (high : Bool) (r : Rx) (samples : Samples) → NoLow (notified s (finished (runsCounted (s .core) high) r) samples)
+unfolding notified finished idled runsCounted tickOf tickIn idleTick silent fell pick
 at-rest s high r samples = record { idle = refl; alone = refl }
 
 -- the end: 0xFF at the position
 ended : (s : DaliBitbangPhy) (high : Bool) (r : Rx) (samples : Samples) (base : DaliBitbangPhy) (level : ℕ → Bool) (m : ℕ)
     → r .«rx_pos» ≡ min (m / 8) 63 → Store (captured base) level (m / 8) (bytesOf samples) → r .«rx_pre_idle» ≡ min (idleCount base) 255
-    → over.Captured base level m (notified s (finished (heardOf (s .core) high) r) (withByte samples (r .«rx_pos») 255))
+    → over.Captured base level m (notified s (finished (runsCounted (s .core) high) r) (withByte samples (r .«rx_pos») 255))
 unfolding notified finished idled
 ended s high r samples base level m at b pre = record {
   idle = at-rest s high r (withByte samples (r .«rx_pos») 255);
@@ -196,7 +196,7 @@ module _ (base : DaliBitbangPhy) (level : ℕ → Bool) where
     then-bytes = filled-next level (captured base) (s .«rx_data») m (s .core .rx) (h .counters) (h .store)
 
     pub on-next : highsRunning (suc m) level ≤ 15 → HearingOn (suc m) (tickOf s (level m))
-    unfolding heardOf
+    unfolding runsCounted
     on-next short =
         let on : sampled (s .core .rx) (level m) .«rx_idle» < 16 = omega (arith, then .idle) in
         rw (tick-on s (level m) (h .in-rx) (lt-ltb _ _ on))
@@ -217,7 +217,7 @@ two-lows level pre e f = record { pos = refl; count = refl; byte = rw (e, f); id
 
 pub second-low-on : (level : ℕ → Bool) (s : DaliBitbangPhy) → IsIdle s → s .core .bus .«rx_debounce» ≡ 1 → level 0 ≡ false → level 1 ≡ false
     → HearingOn s level 2 (tickOf s false)
-unfolding tickOf actOf idleTick silent fell entered sampled highRun heardOf pick
+unfolding tickOf tickIn idleTick silent fell entered sampled highRun runsCounted pick
 second-low-on level s idle once e f =
     rw (idle, once) (record { in-rx = refl; counters = two-lows level _ e f; store = untouched; silence = refl })
   where
@@ -227,7 +227,7 @@ second-low-on level s idle once e f =
 -- One low tick alone is only remembered.
 pub first-low : (s : DaliBitbangPhy) → IsIdle s → s .core .bus .«rx_debounce» ≡ 0
     → IsIdle (tickOf s false) × (tickOf s false .core .bus .«rx_debounce» ≡ 1) × (tickOf s false .«rx_data» ≡ s .«rx_data»)
-unfolding tickOf actOf idleTick silent fell heardOf pick
+unfolding tickOf tickIn idleTick silent fell runsCounted pick
 first-low s idle none = rw (idle, none) (refl, refl, refl)
 
 -- ---- captures of up to 504 levels, which overwrite no slot
@@ -268,7 +268,7 @@ module _ (level : ℕ → Bool) where
 
   -- A capture stays while the line is high.
   pub captured-stays : (m : ℕ) (s : DaliBitbangPhy) → Captured m s → Captured m (tickOf s true)
-  unfolding tickOf actOf idleTick silent fell heardOf pick
+  unfolding tickOf tickIn idleTick silent fell runsCounted pick
   captured-stays m s h = rw (h .idle) (record { idle = refl; ready = h .ready; count = h .count; bytes = h .bytes; end = h .end })
 
   pub second-low : (s : DaliBitbangPhy) → IsIdle s → s .core .bus .«rx_debounce» ≡ 1 → level 0 ≡ false → level 1 ≡ false

@@ -18,11 +18,11 @@ use Rattle.machine.specs.declared.CollisionPolicy.the-variants.{Auto, Off, On}
 use Rattle.machine.specs.declared.Tx.{Tx}
 use Rattle.machine.specs.declared.TxHb.{TxHb}
 use Rattle.machine.specs.declared.Core.{Core}
-use Rattle.machine.specs.Runs.{heardOf}
+use Rattle.machine.specs.Runs.{runsCounted}
 use Rattle.machine.specs.BecomingIdle.{idled}
 use Rattle.fsm.specs.Rx.{sampled, goesOn, finished, rxTick, notified, wentOn}
 use Rattle.machine.specs.Idle.{idleTick, entered, silent, fell}
-use Rattle.machine.specs.Sending.{Step, Arm, Yield, End, Clash, Hold, Drive, watchesOf, clashOf, txStep, armed, yielded, clashed, held, driven, stepped, txTick}
+use Rattle.machine.specs.Sending.{Step, Arm, Yield, End, Clash, Hold, Drive, watchesOf, clashOf, txStep, armed, yielded, clashed, held, driven, afterStep, txTick}
 use Rattle.machine.specs.Collision.{broke, collisionTick}
 use Rattle.machine.specs.Starting.{loaded}
 use Rattle.fsm.specs.declared.DaliBitbangPhy.{DaliBitbangPhy}
@@ -71,8 +71,8 @@ break-steady c high e =
     (λ _ f. absurd (not-tx bus.CollisionTx refl (sym e ∙ f)))
 
 -- and in Tx each step keeps it
-step-steady : (x : Step) (c : Core) → c .bus .«bus_state» ≡ bus.Tx → Steady c → Steady (stepped x c)
-unfolding stepped armed yielded clashed held driven idled idleTick silent fell pick
+step-steady : (x : Step) (c : Core) → c .bus .«bus_state» ≡ bus.Tx → Steady c → Steady (afterStep x c)
+unfolding afterStep armed yielded clashed held driven idled idleTick silent fell pick
 step-steady Arm c e h = h
 step-steady Yield c e h = λ f. absurd (idle-not-sending f)
 step-steady End c e h = λ f. absurd (idle-not-sending f)
@@ -81,11 +81,11 @@ step-steady Hold c e h = λ f left. h e (omega (arith, left))
 step-steady (Drive high) c e h = λ f left. refl
 
 tick-steady : (s : DaliBitbangPhy) (high : Bool) (b : BusState) → s .core .bus .«bus_state» ≡ b → Steady (s .core) → Steady (tickOf s high .core)
-unfolding heardOf txTick
-tick-steady s high bus.Idle e h = rw (tick-idle s high e) (idle-steady (heardOf (s .core) high) high e)
-tick-steady s high bus.Rx e h = rw (tick-rx s high e) (rx-steady s (heardOf (s .core) high) high e)
-tick-steady s high bus.Tx e h = rw (tick-tx s high e) (step-steady _ (heardOf (s .core) high) e h)
-tick-steady s high bus.CollisionTx e h = rw (tick-break s high e) (break-steady (heardOf (s .core) high) high e)
+unfolding runsCounted txTick
+tick-steady s high bus.Idle e h = rw (tick-idle s high e) (idle-steady (runsCounted (s .core) high) high e)
+tick-steady s high bus.Rx e h = rw (tick-rx s high e) (rx-steady s (runsCounted (s .core) high) high e)
+tick-steady s high bus.Tx e h = rw (tick-tx s high e) (step-steady _ (runsCounted (s .core) high) e h)
+tick-steady s high bus.CollisionTx e h = rw (tick-break s high e) (break-steady (runsCounted (s .core) high) high e)
 
 start-steady : (s : DaliBitbangPhy) (allowed : Bool) (hb : HalfBitBuffer) (answer : Bool) → Steady (s .core)
     → Steady (pick {A = Started} allowed (started s hb answer) (startedWith s start.Busy) .station .core)
@@ -179,8 +179,8 @@ isClash Clash = true
 isClash Hold = false
 isClash (Drive out) = false
 
-stepped-clash : (x : Step) (c : Core) → c .bus .«bus_state» ≡ bus.Tx → stepped x c .bus .«bus_state» ≡ bus.CollisionTx → isClash x ≡ true
-unfolding stepped armed yielded clashed held driven idled idleTick silent fell pick isClash
+stepped-clash : (x : Step) (c : Core) → c .bus .«bus_state» ≡ bus.Tx → afterStep x c .bus .«bus_state» ≡ bus.CollisionTx → isClash x ≡ true
+unfolding afterStep armed yielded clashed held driven idled idleTick silent fell pick isClash
 stepped-clash Arm c e f = absurd (sending-not-breaking (sym e ∙ f))
 stepped-clash Yield c e f = absurd (idle-not-breaking f)
 stepped-clash End c e f = absurd (idle-not-breaking f)
@@ -201,8 +201,8 @@ step-clash tx p hb high =
 
 -- ---- what is told of it
 clashed-told : (x : Step) (s : DaliBitbangPhy) (c : Core) → isClash x ≡ true → c .told .«tx_yielded» ≡ false → c .told .«tx_collision» ≡ 0
-    → (polled (withCore s (stepped x c)) .answer ≡ Collision) × (stepped x c .bus .«driven_high» ≡ c .bus .«driven_high»)
-unfolding isClash stepped clashed polled
+    → (polled (withCore s (afterStep x c)) .answer ≡ Collision) × (afterStep x c .bus .«driven_high» ≡ c .bus .«driven_high»)
+unfolding isClash afterStep clashed polled
 clashed-told Arm s c e calm none = absurd (false≢true e)
 clashed-told Yield s c e calm none = absurd (false≢true e)
 clashed-told End s c e calm none = absurd (false≢true e)
@@ -217,23 +217,23 @@ is-high false n e some = absurd (some e)
 
 pub breaking-clash : (s : DaliBitbangPhy) (level : Bool) → IsSending s → IsBreaking (tickOf s level)
     → clashOf (s .core .tx) (s .core .«collision_policy») (toSend s) level ≡ true
-unfolding heardOf
+unfolding runsCounted
 breaking-clash s level sending breaking =
     let x : Step = txStep (s .core .tx) (s .core .«collision_policy») (s .«tx_hb») level in
-    let e : tickOf s level ≡ withCore s (stepped x (heardOf (s .core) level)) = tick-by s level sending x refl in
+    let e : tickOf s level ≡ withCore s (afterStep x (runsCounted (s .core) level)) = tick-by s level sending x refl in
     step-clash (s .core .tx) (s .core .«collision_policy») (s .«tx_hb») level
-    (stepped-clash x (heardOf (s .core) level) sending (sym (ap (λ (t : DaliBitbangPhy). t .core .bus .«bus_state») e) ∙ breaking))
+    (stepped-clash x (runsCounted (s .core) level) sending (sym (ap (λ (t : DaliBitbangPhy). t .core .bus .«bus_state») e) ∙ breaking))
 
 pub clash-seen : ClashSeen
-unfolding txTick heardOf In
+unfolding txTick runsCounted In
 clash-seen s r sending level breaking =
-    let c : Core = heardOf (s .core) level in
+    let c : Core = runsCounted (s .core) level in
     let x : Step = txStep (c .tx) (c .«collision_policy») (s .«tx_hb») level in
-    let e : tickOf s level ≡ withCore s (stepped x c) = tick-tx s level sending in
+    let e : tickOf s level ≡ withCore s (afterStep x c) = tick-tx s level sending in
     let is : isClash x ≡ true = stepped-clash x c sending (sym (ap (λ (t : DaliBitbangPhy). t .core .bus .«bus_state») e) ∙ breaking) in
     let t : Told (s .core .tx) (s .core .«collision_policy») (toSend s) level = clash-told _ _ _ _ (breaking-clash s level sending breaking) in
     let i : In bus.Tx (s .core .runs) (s .core .bus) (s .core .rx) (s .core .told)
     = subst (λ (b : BusState). In b (s .core .runs) (s .core .bus) (s .core .rx) (s .core .told)) sending (reached-whole s r .core .state) in
     let on : drives s ≡ true = is-high (drives s) _ (steady s r sending (t .left)) (t .released) in
-    let told = clashed-told x s c is (i .kept) (i .clear) in
+    let told = clashed-told x s c is (i .unyielded) (i .clear) in
     record { fell = t .fell; released = (on, ap (λ (u : DaliBitbangPhy). drives u) e ∙ told .1 ∙ on); watched = t .watches; told = rw e (told .0) }

@@ -21,11 +21,11 @@ use Rattle.machine.specs.declared.Core.{Core}
 use Rattle.machine.specs.declared.TxHb.{TxHb}
 use Rattle.machine.specs.declared.RxState.the-variants.{Empty, Completed}
 use Rattle.machine.specs.Fields.{withRx, withRxState, withTxCollision, withTxIdleAfterBreak, withTxYielded}
-use Rattle.machine.specs.Runs.{heardOf}
+use Rattle.machine.specs.Runs.{runsCounted}
 use Rattle.machine.specs.BecomingIdle.{idled}
 use Rattle.fsm.specs.Rx.{sampled, highRun, finished, goesOn}
 use Rattle.machine.specs.Idle.{idleTick, entered, silent, fell}
-use Rattle.machine.specs.Sending.{Step, Arm, Yield, End, Clash, Hold, Drive, clashOf, txStep, armed, yielded, clashed, held, driven, stepped, txTick}
+use Rattle.machine.specs.Sending.{Step, Arm, Yield, End, Clash, Hold, Drive, clashOf, txStep, armed, yielded, clashed, held, driven, afterStep, txTick}
 use Rattle.machine.specs.Collision.{broke, collisionTick}
 use Rattle.machine.specs.Starting.{loaded}
 use Rattle.station_theorems.specs.Invariants.{isReceiving}
@@ -64,13 +64,13 @@ pub record InTx (sends : Bool) (told : Told) : Type 0 where
   pub busy : sends ≡ true
   pub unmarked : told .«tx_idle_after_break» ≡ false
   pub clear : told .«tx_collision» ≡ 0
-  pub kept : told .«tx_yielded» ≡ false
+  pub unyielded : told .«tx_yielded» ≡ false
 
 pub record InBreak (sends : Bool) (told : Told) : Type 0 where
   pub receiving : isReceiving (told .«rx_state») ≡ false
   pub busy : sends ≡ true
   pub unmarked : told .«tx_idle_after_break» ≡ false
-  pub kept : told .«tx_yielded» ≡ false
+  pub unyielded : told .«tx_yielded» ≡ false
 
 unfoldable pub In : BusState → Runs → Bus → Rx → Told → Type 0
 In bus.Idle runs b rx told = InIdle runs b (told .«rx_state»)
@@ -108,8 +108,8 @@ first-low c low e = record {
 
 -- ---- a tick, of a core that the level was not heard by yet
 -- the runs alone
-heard-any : (c : Core) (high : Bool) → AnyOf c → AnyOf (heardOf c high)
-unfolding heardOf pick
+heard-any : (c : Core) (high : Bool) → AnyOf c → AnyOf (runsCounted c high)
+unfolding runsCounted pick
 heard-any c true a = record { one-run = λ h. refl; collisions = a .collisions; either = a .either }
 heard-any c false a = record { one-run = λ h. absurd (not-below h); collisions = a .collisions; either = a .either }
   where
@@ -119,12 +119,12 @@ heard-any c false a = record { one-run = λ h. absurd (not-below h); collisions 
 up : (a b : ℕ) → a ≤ b → min (a + 1) 65535 ≤ min (b + 1) 65535
 up a b h = omega (arith, h)
 
-heard-high : (c : Core) (high : Bool) → heardOf c high .runs .«high_run_ticks» ≡ pick high (min (c .runs .«high_run_ticks» + 1) 65535) 0
-unfolding heardOf pick
+heard-high : (c : Core) (high : Bool) → runsCounted c high .runs .«high_run_ticks» ≡ pick high (min (c .runs .«high_run_ticks» + 1) 65535) 0
+unfolding runsCounted pick
 heard-high c true = refl
 heard-high c false = refl
 
-heard-low : (c : Core) (high : Bool) → high ≡ false → heardOf c high .runs .«high_run_ticks» ≡ 0
+heard-low : (c : Core) (high : Bool) → high ≡ false → runsCounted c high .runs .«high_run_ticks» ≡ 0
 heard-low c high e = heard-high c high ∙ on-false e (min (c .runs .«high_run_ticks» + 1) 65535) 0
 
 -- ---- one sample
@@ -214,8 +214,8 @@ coreAfter bus.CollisionTx c hb high = collisionTick c high
 module _ (c : Core) (a : AnyOf c) where
   -- ---- Idle
   module _ (i : InIdle (c .runs) (c .bus) (c .told .«rx_state»)) (e : c .bus .«bus_state» ≡ bus.Idle) where
-    idle-good : (high : Bool) → Good (idleTick (heardOf c high) high)
-    unfolding idleTick silent fell heardOf pick In entered sampled highRun isReceiving
+    idle-good : (high : Bool) → Good (idleTick (runsCounted c high) high)
+    unfolding idleTick silent fell runsCounted pick In entered sampled highRun isReceiving
     idle-good true = record {
       any = heard-any c true a;
       state = rw e (record { receiving = i .receiving; released = i .released; busy = i .busy; debounce = omega arith; fell = λ h. absurd (not-below h); counted = up _ _ (i .counted) });
@@ -243,8 +243,8 @@ module _ (c : Core) (a : AnyOf c) where
 
   -- ---- Rx
   module _ (i : InRx (c .runs) (c .bus) (c .rx) (c .told .«rx_state»)) (e : c .bus .«bus_state» ≡ bus.Rx) where
-    pub rx-good : (high : Bool) → Good (rxCore (heardOf c high) high)
-    unfolding heardOf finished In isReceiving
+    pub rx-good : (high : Bool) → Good (rxCore (runsCounted c high) high)
+    unfolding runsCounted finished In isReceiving
     rx-good high =
         let r : Rx = sampled (c .rx) high in
         let k : Sampled high (c .rx .«rx_idle») r = sampled-keeps (c .rx) high (i .bits) (i .place) (i .enough) in
@@ -284,28 +284,28 @@ module _ (c : Core) (a : AnyOf c) where
     no-collision : 0 < c .told .«tx_collision» → ⊥
     no-collision h = omega (arith, h, i .clear)
 
-    step-good : (high : Bool) (x : Step) → (x ≡ Yield → high ≡ false) → Good (stepped x (heardOf c high))
-    unfolding stepped armed yielded clashed held driven heardOf In
+    step-good : (high : Bool) (x : Step) → (x ≡ Yield → high ≡ false) → Good (afterStep x (runsCounted c high))
+    unfolding afterStep armed yielded clashed held driven runsCounted In
     step-good high Arm low = record { any = heard-any c high a; state = rw e i }
     step-good high Yield low =
         first-low _ (heard-low c high (low refl))
         (record { any = record { one-run = heard-any c high a .one-run; collisions = a .collisions; either = λ h. absurd (no-collision h) }; receiving = i .receiving })
     step-good high End low = idled-good _ (record { any = heard-any c high a; receiving = i .receiving })
     step-good high Clash low = record {
-      any = record { one-run = heard-any c high a .one-run; collisions = rw (i .clear) (omega arith); either = λ h. i .kept };
-      state = record { receiving = i .receiving; busy = i .busy; unmarked = refl; kept = i .kept };
+      any = record { one-run = heard-any c high a .one-run; collisions = rw (i .clear) (omega arith); either = λ h. i .unyielded };
+      state = record { receiving = i .receiving; busy = i .busy; unmarked = refl; unyielded = i .unyielded };
     }
     step-good high Hold low = record { any = heard-any c high a; state = rw e i }
     step-good high (Drive out) low = record { any = heard-any c high a; state = rw e i }
 
-    tx-good : (high : Bool) → Good (txTick (heardOf c high) hb high)
+    tx-good : (high : Bool) → Good (txTick (runsCounted c high) hb high)
     unfolding txTick
-    tx-good high = step-good high (txStep (heardOf c high .tx) (heardOf c high .«collision_policy») hb high) (yields-low _ _ hb high)
+    tx-good high = step-good high (txStep (runsCounted c high .tx) (runsCounted c high .«collision_policy») hb high) (yields-low _ _ hb high)
 
   -- ---- Collision
   module _ (i : InBreak (c .bus .«tx_busy») (c .told)) (e : c .bus .«bus_state» ≡ bus.CollisionTx) where
-    break-good : (high : Bool) → Good (collisionTick (heardOf c high) high)
-    unfolding collisionTick broke heardOf In
+    break-good : (high : Bool) → Good (collisionTick (runsCounted c high) high)
+    unfolding collisionTick broke runsCounted In
     break-good high =
         cases Good (leb 14 ((c .tx .«tx_sp_cnt» + 1) % 256))
         (λ over. cases Good high
@@ -318,11 +318,11 @@ pub loaded-good : (c : Core) (answer : Bool) → AnyOf c → Good (loaded c answ
 unfolding loaded In isReceiving
 loaded-good c answer a = record {
   any = record { one-run = a .one-run; collisions = omega arith; either = λ h. refl };
-  state = record { receiving = refl; busy = refl; unmarked = refl; clear = refl; kept = refl };
+  state = record { receiving = refl; busy = refl; unmarked = refl; clear = refl; unyielded = refl };
 }
 
 -- ---- any tick
-pub act-good : (b : BusState) (c : Core) (hb : TxHb) (high : Bool) → c .bus .«bus_state» ≡ b → Good c → Good (coreAfter b (heardOf c high) hb high)
+pub act-good : (b : BusState) (c : Core) (hb : TxHb) (high : Bool) → c .bus .«bus_state» ≡ b → Good c → Good (coreAfter b (runsCounted c high) hb high)
 unfolding coreAfter In
 act-good bus.Idle c hb high e g = idle-good c (g .any) (subst (λ (x : BusState). In x (c .runs) (c .bus) (c .rx) (c .told)) e (g .state)) e high
 act-good bus.Rx c hb high e g = rx-good c (g .any) (subst (λ (x : BusState). In x (c .runs) (c .bus) (c .rx) (c .told)) e (g .state)) e high
@@ -348,8 +348,8 @@ module _ (c : Core) (g : Good c) where
     unfolding In
     told-in bus.Idle i = i
     told-in bus.Rx i = i
-    told-in bus.Tx i = record { receiving = i .receiving; busy = i .busy; unmarked = stays-false m _ mark (i .unmarked); clear = none (i .clear); kept = stays-false y _ yield (i .kept) }
-    told-in bus.CollisionTx i = record { receiving = i .receiving; busy = i .busy; unmarked = stays-false m _ mark (i .unmarked); kept = stays-false y _ yield (i .kept) }
+    told-in bus.Tx i = record { receiving = i .receiving; busy = i .busy; unmarked = stays-false m _ mark (i .unmarked); clear = none (i .clear); unyielded = stays-false y _ yield (i .unyielded) }
+    told-in bus.CollisionTx i = record { receiving = i .receiving; busy = i .busy; unmarked = stays-false m _ mark (i .unmarked); unyielded = stays-false y _ yield (i .unyielded) }
 
     pub telling-good : Good (telling c k m y)
     telling-good = record {
@@ -362,8 +362,8 @@ module _ (c : Core) (g : Good c) where
     unfolding In isReceiving
     taken-in bus.Idle i = record { receiving = refl; released = i .released; busy = i .busy; debounce = i .debounce; fell = i .fell; counted = i .counted }
     taken-in bus.Rx i = absurd (false≢true (sym (ap isReceiving done) ∙ i .receiving))
-    taken-in bus.Tx i = record { receiving = refl; busy = i .busy; unmarked = i .unmarked; clear = i .clear; kept = i .kept }
-    taken-in bus.CollisionTx i = record { receiving = refl; busy = i .busy; unmarked = i .unmarked; kept = i .kept }
+    taken-in bus.Tx i = record { receiving = refl; busy = i .busy; unmarked = i .unmarked; clear = i .clear; unyielded = i .unyielded }
+    taken-in bus.CollisionTx i = record { receiving = refl; busy = i .busy; unmarked = i .unmarked; unyielded = i .unyielded }
 
     pub taken-good : Good (withRxState c Empty)
     taken-good = record { any = g .any; state = taken-in (c .bus .«bus_state») (g .state) }

@@ -14,11 +14,11 @@ use Rattle.machine.specs.declared.BusState.{BusState}
 use Rattle.machine.specs.declared.BusState.the-variants as bus
 use Rattle.machine.specs.declared.Runs.{Runs}
 use Rattle.machine.specs.declared.Core.{Core}
-use Rattle.machine.specs.Runs.{heardOf}
+use Rattle.machine.specs.Runs.{runsCounted}
 use Rattle.machine.specs.BecomingIdle.{idled}
 use Rattle.fsm.specs.Rx.{sampled, goesOn, finished, rxTick, notified, wentOn}
 use Rattle.machine.specs.Idle.{idleTick, entered, silent, fell}
-use Rattle.machine.specs.Sending.{Step, Arm, Yield, End, Clash, Hold, Drive, armed, yielded, clashed, held, driven, stepped, txTick}
+use Rattle.machine.specs.Sending.{Step, Arm, Yield, End, Clash, Hold, Drive, armed, yielded, clashed, held, driven, afterStep, txTick}
 use Rattle.machine.specs.Collision.{broke, collisionTick}
 use Rattle.machine.specs.Starting.{loaded}
 use Rattle.fsm.specs.declared.DaliBitbangPhy.{DaliBitbangPhy}
@@ -41,8 +41,8 @@ not-idle : (b : BusState) → isIdle b ≡ false → b ≡ bus.Idle → ⊥
 unfolding isIdle
 not-idle b e f = false≢true (sym e ∙ ap isIdle f)
 
-step-fits : (x : Step) (c : Core) → c .bus .«bus_state» ≡ bus.Tx → Fits (stepped x c)
-unfolding stepped armed yielded clashed held driven idled idleTick silent fell pick isIdle
+step-fits : (x : Step) (c : Core) → c .bus .«bus_state» ≡ bus.Tx → Fits (afterStep x c)
+unfolding afterStep armed yielded clashed held driven idled idleTick silent fell pick isIdle
 step-fits Arm c e f = absurd (idle-not-sending (sym f ∙ e))
 step-fits Yield c e f = refl
 step-fits End c e f = refl
@@ -61,11 +61,11 @@ rx-fits s c high e =
     cases (λ (t : DaliBitbangPhy). Fits (t .core)) (goesOn (sampled (c .rx) high)) (λ _ f. absurd (not-idle bus.Rx refl (sym e ∙ f))) (λ _ _. refl)
 
 idle-fits : (s : DaliBitbangPhy) (high : Bool) (b : BusState) → s .core .bus .«bus_state» ≡ b → (IsIdle s → ⊥) → Fits (tickOf s high .core)
-unfolding heardOf txTick
+unfolding runsCounted txTick
 idle-fits s high bus.Idle e other = absurd (other e)
-idle-fits s high bus.Rx e other = rw (tick-rx s high e) (rx-fits s (heardOf (s .core) high) high e)
-idle-fits s high bus.Tx e other = rw (tick-tx s high e) (step-fits _ (heardOf (s .core) high) e)
-idle-fits s high bus.CollisionTx e other = rw (tick-break s high e) (break-fits (heardOf (s .core) high) high e)
+idle-fits s high bus.Rx e other = rw (tick-rx s high e) (rx-fits s (runsCounted (s .core) high) high e)
+idle-fits s high bus.Tx e other = rw (tick-tx s high e) (step-fits _ (runsCounted (s .core) high) e)
+idle-fits s high bus.CollisionTx e other = rw (tick-break s high e) (break-fits (runsCounted (s .core) high) high e)
 
 pub becomes-idle : BecomesIdle
 unfolding pick
@@ -78,8 +78,8 @@ idle-runs c high =
     let P : Core → Type 0 = λ (d : Core). d .runs ≡ c .runs in
     cases P high (λ _. refl) (λ _. cases P (ltb (min (c .bus .«rx_debounce» + 1) 255) 2) (λ _. refl) (λ _. refl))
 
-step-runs : (x : Step) (c : Core) → stepped x c .runs ≡ c .runs
-unfolding stepped armed yielded clashed held driven idled idleTick silent fell pick
+step-runs : (x : Step) (c : Core) → afterStep x c .runs ≡ c .runs
+unfolding afterStep armed yielded clashed held driven idled idleTick silent fell pick
 step-runs Arm c = refl
 step-runs Yield c = refl
 step-runs End c = refl
@@ -97,12 +97,12 @@ rx-runs : (s : DaliBitbangPhy) (c : Core) (high : Bool) → rxTick s c high .cor
 unfolding rxTick wentOn notified finished idled
 rx-runs s c high = cases (λ (t : DaliBitbangPhy). t .core .runs ≡ c .runs) (goesOn (sampled (c .rx) high)) (λ _. refl) (λ _. refl)
 
-tick-runs : (s : DaliBitbangPhy) (high : Bool) (b : BusState) → s .core .bus .«bus_state» ≡ b → tickOf s high .core .runs ≡ heardOf (s .core) high .runs
+tick-runs : (s : DaliBitbangPhy) (high : Bool) (b : BusState) → s .core .bus .«bus_state» ≡ b → tickOf s high .core .runs ≡ runsCounted (s .core) high .runs
 unfolding txTick
-tick-runs s high bus.Idle e = rw (tick-idle s high e) (idle-runs (heardOf (s .core) high) high)
-tick-runs s high bus.Rx e = rw (tick-rx s high e) (rx-runs s (heardOf (s .core) high) high)
-tick-runs s high bus.Tx e = rw (tick-tx s high e) (step-runs _ (heardOf (s .core) high))
-tick-runs s high bus.CollisionTx e = rw (tick-break s high e) (break-runs (heardOf (s .core) high) high)
+tick-runs s high bus.Idle e = rw (tick-idle s high e) (idle-runs (runsCounted (s .core) high) high)
+tick-runs s high bus.Rx e = rw (tick-rx s high e) (rx-runs s (runsCounted (s .core) high) high)
+tick-runs s high bus.Tx e = rw (tick-tx s high e) (step-runs _ (runsCounted (s .core) high))
+tick-runs s high bus.CollisionTx e = rw (tick-break s high e) (break-runs (runsCounted (s .core) high) high)
 
 start-runs : (s : DaliBitbangPhy) (allowed : Bool) (hb : HalfBitBuffer) (answer : Bool)
     → pick {A = Started} allowed (started s hb answer) (startedWith s start.Busy) .station .core .runs ≡ s .core .runs
@@ -119,12 +119,12 @@ one-more : (n k : ℕ) → k ≡ min n 65535 → min (k + 1) 65535 ≡ min (suc 
 one-more n k e = omega (arith, e)
 
 ran-on : (level : Bool) (n : ℕ) (s : DaliBitbangPhy) → Ran level n (s .core .runs) → Ran level (suc n) (tickOf s level .core .runs)
-unfolding heardOf pick
+unfolding runsCounted pick
 ran-on true n s h = rw (tick-runs s true (s .core .bus .«bus_state») refl) (one-more n _ (h .0), λ _. refl)
 ran-on false n s h = rw (tick-runs s false (s .core .bus .«bus_state») refl) (one-more n _ (h .0), λ _. refl)
 
 none-yet : (s : DaliBitbangPhy) (level : Bool) → Ran level 0 (tickOf s (not level) .core .runs)
-unfolding heardOf pick
+unfolding runsCounted pick
 none-yet s true = rw (tick-runs s false (s .core .bus .«bus_state») refl) (refl, λ h. absurd (let no : ⊥ = omega (arith, h) in no))
 none-yet s false = rw (tick-runs s true (s .core .bus .«bus_state») refl) (refl, λ h. absurd (let no : ⊥ = omega (arith, h) in no))
 

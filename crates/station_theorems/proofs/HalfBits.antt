@@ -19,14 +19,14 @@ use Rattle.machine.specs.declared.CollisionPolicy.{CollisionPolicy}
 use Rattle.machine.specs.declared.Tx.{Tx}
 use Rattle.machine.specs.declared.TxHb.{TxHb}
 use Rattle.machine.specs.declared.Core.{Core}
-use Rattle.machine.specs.Runs.{heardOf}
+use Rattle.machine.specs.Runs.{runsCounted}
 use Rattle.machine.specs.BecomingIdle.{idled}
 use Rattle.machine.specs.Idle.{idleTick, silent, fell}
-use Rattle.machine.specs.Sending.{Step, Arm, Yield, End, Clash, Hold, Drive, clashOf, releasesAt, txStep, armed, yielded, clashed, held, driven, stepped, txTick}
+use Rattle.machine.specs.Sending.{Step, Arm, Yield, End, Clash, Hold, Drive, clashOf, releasesAt, txStep, armed, yielded, clashed, held, driven, afterStep, txTick}
 use Rattle.fsm.specs.declared.DaliBitbangPhy.{DaliBitbangPhy}
 use Rattle.fsm.specs.declared.TxPollResult.the-variants.{Ok, Yielded}
 use Rattle.fsm.specs.Station.{withCore}
-use Rattle.fsm.specs.Ticking.{actOf, tickOf}
+use Rattle.fsm.specs.Ticking.{tickIn, tickOf}
 use Rattle.machine.specs.States.{hears, isTx}
 use Rattle.fsm.specs.Polling.{polled}
 use Rattle.station_theorems.specs.Calls.{Call, tick, after, afterAll, called}
@@ -52,8 +52,8 @@ isDrive (Drive out) = true
 no-more : (n : ℕ) → n ≡ n + 1 → ⊥
 no-more n e = omega (arith, e)
 
-counts-drive : (x : Step) (c : Core) → stepped x c .tx .«tx_hb_cnt» ≡ c .tx .«tx_hb_cnt» + 1 → isDrive x ≡ true
-unfolding stepped armed yielded clashed held driven idled idleTick silent fell pick isDrive
+counts-drive : (x : Step) (c : Core) → afterStep x c .tx .«tx_hb_cnt» ≡ c .tx .«tx_hb_cnt» + 1 → isDrive x ≡ true
+unfolding afterStep armed yielded clashed held driven idled idleTick silent fell pick isDrive
 counts-drive Arm c e = absurd (no-more _ e)
 counts-drive Yield c e = absurd (no-more _ e)
 counts-drive End c e = absurd (no-more _ e)
@@ -82,22 +82,22 @@ module _ (s : DaliBitbangPhy) (level : Bool) (b : Begins s level) where
   step : Step
   step = txStep (s .core .tx) (s .core .«collision_policy») (s .«tx_hb») level
 
-  ticked : tickOf s level ≡ withCore s (stepped step (heardOf (s .core) level))
-  unfolding step txTick heardOf
+  ticked : tickOf s level ≡ withCore s (afterStep step (runsCounted (s .core) level))
+  unfolding step txTick runsCounted
   ticked = tick-tx s level (b .sending)
 
   is-drive : Drew (s .core .tx) (s .«tx_hb») step
-  unfolding step heardOf
+  unfolding step runsCounted
   is-drive =
       drew (s .core .tx) (s .core .«collision_policy») (s .«tx_hb») level
-      (counts-drive step (heardOf (s .core) level) (sym (ap (λ (t : DaliBitbangPhy). begun t) ticked) ∙ b .one-more))
+      (counts-drive step (runsCounted (s .core) level) (sym (ap (λ (t : DaliBitbangPhy). begun t) ticked) ∙ b .one-more))
 
-  pub begin-tick : tickOf s level ≡ withCore s (driven (heardOf (s .core) level) (releasesAt (s .«tx_hb») (begun s)))
-  unfolding stepped
-  begin-tick = ticked ∙ ap (λ (x : Step). withCore s (stepped x (heardOf (s .core) level))) (is-drive .out)
+  pub begin-tick : tickOf s level ≡ withCore s (driven (runsCounted (s .core) level) (releasesAt (s .«tx_hb») (begun s)))
+  unfolding afterStep
+  begin-tick = ticked ∙ ap (λ (x : Step). withCore s (afterStep x (runsCounted (s .core) level))) (is-drive .out)
 
 pub half-bits-driven : HalfBitsDriven
-unfolding driven heardOf
+unfolding driven runsCounted
 half-bits-driven s level b = record {
   sending = ap (λ (t : DaliBitbangPhy). t .core .bus .«bus_state») (begin-tick s level b) ∙ b .sending;
   driven = ap (λ (t : DaliBitbangPhy). drives t) (begin-tick s level b);
@@ -114,7 +114,7 @@ pub record InHalf (first : DaliBitbangPhy) (n : ℕ) (t : DaliBitbangPhy) : Type
   pub store : t .«tx_hb» ≡ first .«tx_hb»
 
 half-begins : (s : DaliBitbangPhy) (level : Bool) → Begins s level → InHalf (tickOf s level) 0 (tickOf s level)
-unfolding driven heardOf
+unfolding driven runsCounted
 half-begins s level b =
     rw (begin-tick s level b) (record { sending = b .sending; unarmed = is-drive s level b .unarmed; left = refl; watch = refl; level = refl; count = refl; store = refl })
 
@@ -128,24 +128,24 @@ module _ (first : DaliBitbangPhy) (more : begun first < toSend first) (n : ℕ) 
       let within : begun t < toSend t = rw (h .store) (omega (arith, h .count)) in
       simp (on-false (ap not (eq-eqb _ _ (h .unarmed))), on-false (lt-leb _ _ within))
 
-  by : (x : Step) → txStep (t .core .tx) (t .core .«collision_policy») (t .«tx_hb») b ≡ x → tickOf t b ≡ withCore t (stepped x (heardOf (t .core) b))
+  by : (x : Step) → txStep (t .core .tx) (t .core .«collision_policy») (t .«tx_hb») b ≡ x → tickOf t b ≡ withCore t (afterStep x (runsCounted (t .core) b))
   by = tick-by t b (h .sending)
 
   module _ (clash : clashOf (t .core .tx) (t .core .«collision_policy») (toSend t) b ≡ true) where
     clash-tick : IsBreaking (tickOf t b) × (tickOf t b .core .tx .«tx_sp_cnt» ≡ 0)
-    unfolding stepped clashed
+    unfolding afterStep clashed
     clash-tick = rw (by Clash (rule ∙ on-true clash _ _)) (refl, refl)
 
   module _ (calm : clashOf (t .core .tx) (t .core .«collision_policy») (toSend t) b ≡ false) where
     hold-tick : n < 3 → InHalf first (suc n) (tickOf t b)
-    unfolding stepped held heardOf
+    unfolding afterStep held runsCounted
     hold-tick few =
         let some : t .core .tx .«tx_sp_cnt» ≡ 0 → ⊥ = λ e. omega (arith, h .left, e) in
         rw (by Hold (rule ∙ on-false calm _ _ ∙ on-true (ap not (ne-eqb _ _ some)) _ _))
         (record { sending = h .sending; unarmed = h .unarmed; left = omega (arith, h .left); watch = h .watch; level = h .level; count = h .count; store = h .store })
 
     drive-tick : n ≡ 3 → toSend first ≤ 54 → IsSending (tickOf t b) × (begun (tickOf t b) ≡ begun t + 1)
-    unfolding stepped driven heardOf
+    unfolding afterStep driven runsCounted
     drive-tick last short =
         let none : t .core .tx .«tx_sp_cnt» ≡ 0 = omega (arith, h .left) in
         let at : begun t < 54 = omega (arith, h .count) in
@@ -204,7 +204,7 @@ record Broken (n : ℕ) (t : DaliBitbangPhy) : Type 0 where
   passed : t .core .tx .«tx_sp_cnt» ≤ n
 
 broken-on : (n : ℕ) (t : DaliBitbangPhy) (b : Bool) → n < 3 → Broken n t → Broken (suc n) (tickOf t b)
-unfolding heardOf
+unfolding runsCounted
 broken-on n t b few h =
     let p : t .core .tx .«tx_sp_cnt» ≤ n = h .passed in
     rw (tick-on _ t (h .breaking) refl b (omega arith)) (record { breaking = h .breaking; passed = omega arith })
@@ -286,19 +286,19 @@ stays first calls t h none =
     calls 0 t (all-any (levelsIn calls)) h (omega arith) in
     rw none at g
 
-end-tick : (first t : DaliBitbangPhy) → InHalf first 0 t → begun first ≡ toSend first → (b : Bool) → tickOf t b ≡ withCore t (idled (heardOf (t .core) b))
-unfolding txTick txStep stepped heardOf
+end-tick : (first t : DaliBitbangPhy) → InHalf first 0 t → begun first ≡ toSend first → (b : Bool) → tickOf t b ≡ withCore t (idled (runsCounted (t .core) b))
+unfolding txTick txStep afterStep runsCounted
 end-tick first t h all b =
     let done : toSend t ≤ begun t = rw (h .store) (omega (arith, h .count)) in
     tick-tx t b (h .sending) ∙ simp (on-false (ap not (eq-eqb _ _ (h .unarmed))), on-true (le-leb _ _ done))
 
-idle-now : (t : DaliBitbangPhy) (b : Bool) → NoLow (withCore t (idled (heardOf (t .core) b)))
-unfolding idled heardOf tickOf actOf idleTick silent fell pick
+idle-now : (t : DaliBitbangPhy) (b : Bool) → NoLow (withCore t (idled (runsCounted (t .core) b)))
+unfolding idled runsCounted tickOf tickIn idleTick silent fell pick
 idle-now t b = record { idle = refl; alone = refl }
 
 idle-told : (t : DaliBitbangPhy) (b : Bool) → t .core .told .«tx_yielded» ≡ false → t .core .told .«tx_collision» ≡ 0
-    → polled (withCore t (idled (heardOf (t .core) b))) .answer ≡ Ok
-unfolding idled heardOf polled isTx pick
+    → polled (withCore t (idled (runsCounted (t .core) b))) .answer ≡ Ok
+unfolding idled runsCounted polled isTx pick
 idle-told t b calm none = rw (calm, none)
 
 pub last-half-bit : LastHalfBit
@@ -311,15 +311,15 @@ last-half-bit s r level b all calls none next =
     let i : In bus.Tx (t .core .runs) (t .core .bus) (t .core .rx) (t .core .told)
     = subst (λ (x : BusState). In x (t .core .runs) (t .core .bus) (t .core .rx) (t .core .told)) (h .sending)
     (reached-whole t (reached-all calls first (called (tick level) r)) .core .state) in
-    rw (end-tick first t h (rw same all) next) (record { idle = idle-now t next; told = idle-told t next (i .kept) (i .clear) })
+    rw (end-tick first t h (rw same all) next) (record { idle = idle-now t next; told = idle-told t next (i .unyielded) (i .clear) })
 
 -- ---- going Idle
 module _ (s : DaliBitbangPhy) (short : toSend s ≤ 54) (sending : IsSending s) (level : Bool) where
   Ends : Step → Type 0
-  Ends x = IsIdle (withCore s (stepped x (heardOf (s .core) level))) → (toSend s ≤ begun s) ⊎ (polled (withCore s (stepped x (heardOf (s .core) level))) .answer ≡ Yielded)
+  Ends x = IsIdle (withCore s (afterStep x (runsCounted (s .core) level))) → (toSend s ≤ begun s) ⊎ (polled (withCore s (afterStep x (runsCounted (s .core) level))) .answer ≡ Yielded)
 
   whole : Ends (txStep (s .core .tx) (s .core .«collision_policy») (s .«tx_hb») level)
-  unfolding Ends txStep stepped armed yielded clashed held driven idled idleTick silent fell heardOf polled pick
+  unfolding Ends txStep afterStep armed yielded clashed held driven idled idleTick silent fell runsCounted polled pick
   whole =
       cases Ends (not (eqb (s .core .tx .«tx_armed») 0))
       (λ _. cases Ends (not level && not (s .core .tx .«tx_answer»)) (λ _ _. inr refl) (λ _ e. absurd (idle-not-sending (sym e ∙ sending))))

@@ -17,17 +17,17 @@ use Rattle.laws.proofs.Picked.{on-true, on-false}
 use Rattle.halfbits.specs.declared.HalfBitBuffer.{HalfBitBuffer}
 use Rattle.machine.specs.declared.BusState.the-variants as bus
 use Rattle.machine.specs.declared.RxState.the-variants.{Completed}
-use Rattle.machine.specs.Runs.{heardOf}
+use Rattle.machine.specs.Runs.{runsCounted}
 use Rattle.machine.specs.BecomingIdle.{idled}
 use Rattle.fsm.specs.Rx.{highRun, sampled, finished, filled, notified, rxTick, wentOn}
 use Rattle.machine.specs.Idle.{entered, idleTick, silent, fell}
-use Rattle.machine.specs.Sending.{halfBitsIn, storeOf, watchesOf, clashOf, releasesAt, txStep, armed, clashed, held, driven, stepped, txTick}
+use Rattle.machine.specs.Sending.{halfBitsIn, txHbOf, watchesOf, clashOf, releasesAt, txStep, armed, clashed, held, driven, afterStep, txTick}
 use Rattle.machine.specs.Collision.{broke, collisionTick}
 use Rattle.machine.specs.Starting.{loaded}
 use Rattle.fsm.specs.declared.DaliBitbangPhy.{DaliBitbangPhy}
 use Rattle.fsm.specs.declared.TxPollResult.the-variants.{Yielded}
 use Rattle.fsm.specs.Station.{newCore, newStation}
-use Rattle.fsm.specs.Ticking.{actOf, tickOf}
+use Rattle.fsm.specs.Ticking.{tickIn, tickOf}
 use Rattle.machine.specs.States.{isTx, isIdle, hears}
 use Rattle.fsm.specs.declared.StartAnswer.the-variants as start
 use Rattle.fsm.specs.Polling.{polled}
@@ -91,7 +91,7 @@ record Leads : Type 0 where
   finds-idle : run (times 14 high clash) .core .told .«tx_idle_after_break» ≡ true
 
 leads : Leads
-unfolding times run low high released sends clash capture after newStation newCore tickOf actOf heardOf idled idleTick silent fell entered sampled highRun rxTick wentOn filled notified finished startTx isIdle lengthFits started loadedWith loaded storeOf halfBitsIn packed txTick txStep clashOf watchesOf releasesAt stepped armed held driven clashed collisionTick broke pick
+unfolding times run low high released sends clash capture after newStation newCore tickOf tickIn runsCounted idled idleTick silent fell entered sampled highRun rxTick wentOn filled notified finished startTx isIdle lengthFits started loadedWith loaded txHbOf halfBitsIn packed txTick txStep clashOf watchesOf releasesAt afterStep armed held driven clashed collisionTick broke pick
 leads = record { debounces = refl; receives = refl; completes = refl; sends-it = refl; breaks = refl; collides = refl; finds-idle = refl }
 
 -- ---- what the statements over ticks ask for
@@ -125,7 +125,7 @@ record Asked : Type 0 where
   new-idle : IsIdle newStation
 
 asked : Asked
-unfolding times run low high released sends clash capture after newStation newCore tickOf actOf heardOf idled idleTick silent fell entered sampled highRun rxTick wentOn filled notified finished startTx isIdle lengthFits started loadedWith loaded storeOf halfBitsIn packed txTick txStep clashOf watchesOf releasesAt stepped armed held driven clashed collisionTick broke pick hears short waits startAnswer Watches afterAll StaysSending polled isTx
+unfolding times run low high released sends clash capture after newStation newCore tickOf tickIn runsCounted idled idleTick silent fell entered sampled highRun rxTick wentOn filled notified finished startTx isIdle lengthFits started loadedWith loaded txHbOf halfBitsIn packed txTick txStep clashOf watchesOf releasesAt afterStep armed held driven clashed collisionTick broke pick hears short waits startAnswer Watches afterAll StaysSending polled isTx
 asked = record {
   none-yet = record { idle = refl; alone = refl };
   one-yet = record { idle = refl; second = refl };

@@ -16,11 +16,11 @@ use Rattle.machine.specs.declared.RxState.the-variants.{Empty, Receiving, Compl
 use Rattle.machine.specs.declared.Rx.{Rx}
 use Rattle.machine.specs.declared.Core.{Core}
 use Rattle.machine.specs.Fields.{withRx}
-use Rattle.machine.specs.Runs.{heardOf}
+use Rattle.machine.specs.Runs.{runsCounted}
 use Rattle.machine.specs.BecomingIdle.{idled}
 use Rattle.fsm.specs.Rx.{sampled, goesOn, finished, notified, rxTick, wentOn}
 use Rattle.machine.specs.Idle.{idleTick, entered, silent, fell}
-use Rattle.machine.specs.Sending.{Step, Arm, Yield, End, Clash, Hold, Drive, storeOf, armed, yielded, clashed, held, driven, stepped, txTick}
+use Rattle.machine.specs.Sending.{Step, Arm, Yield, End, Clash, Hold, Drive, txHbOf, armed, yielded, clashed, held, driven, afterStep, txTick}
 use Rattle.machine.specs.Collision.{broke, collisionTick}
 use Rattle.machine.specs.Starting.{loaded}
 use Rattle.fsm.specs.declared.DaliBitbangPhy.{DaliBitbangPhy}
@@ -28,7 +28,7 @@ use Rattle.fsm.specs.declared.Started.{Started}
 use Rattle.fsm.specs.declared.StartAnswer.the-variants.{Busy}
 use Rattle.fsm.specs.declared.Polled.{Polled}
 use Rattle.fsm.specs.Station.{lastCount, newCore, newStation, withCore}
-use Rattle.fsm.specs.Ticking.{actOf, tickOf}
+use Rattle.fsm.specs.Ticking.{tickIn, tickOf}
 use Rattle.machine.specs.States.{isIdle, hears, isTx, isCompleted}
 use Rattle.fsm.specs.Starting.{lengthFits, startedWith, loadedWith, started, startTx, startAnswer}
 use Rattle.fsm.specs.Polling.{polled}
@@ -67,8 +67,8 @@ idle-mark c high =
     let P : Core → Type 0 = λ (d : Core). d .told .«rx_state» ≡ Completed → c .told .«rx_state» ≡ Completed in
     cases P high (λ _ e. e) (λ _. cases P (ltb (min (c .bus .«rx_debounce» + 1) 255) 2) (λ _ e. e) (λ _ e. absurd (not-receiving e)))
 
-step-mark : (x : Step) (c : Core) → stepped x c .told .«rx_state» ≡ c .told .«rx_state»
-unfolding stepped armed yielded clashed held driven idled idleTick silent fell pick
+step-mark : (x : Step) (c : Core) → afterStep x c .told .«rx_state» ≡ c .told .«rx_state»
+unfolding afterStep armed yielded clashed held driven idled idleTick silent fell pick
 step-mark Arm c = refl
 step-mark Yield c = refl
 step-mark End c = refl
@@ -84,10 +84,10 @@ break-mark c high =
 
 -- ---- a tick
 module _ (s : DaliBitbangPhy) (w : Whole s) (high : Bool) where
-  rx-whole : s .core .bus .«bus_state» ≡ bus.Rx → Whole (rxTick s (heardOf (s .core) high) high)
-  unfolding rxTick wentOn notified finished idled heardOf In coreAfter
+  rx-whole : s .core .bus .«bus_state» ≡ bus.Rx → Whole (rxTick s (runsCounted (s .core) high) high)
+  unfolding rxTick wentOn notified finished idled runsCounted In coreAfter
   rx-whole e =
-      let c : Core = heardOf (s .core) high in
+      let c : Core = runsCounted (s .core) high in
       let r : Rx = sampled (s .core .rx) high in
       let g : Good (rxCore c high) = act-good bus.Rx (s .core) (s .«tx_hb») high e (w .core) in
       let i : In bus.Rx (s .core .runs) (s .core .bus) (s .core .rx) (s .core .told) = subst (λ (x : BusState). In x (s .core .runs) (s .core .bus) (s .core .rx) (s .core .told)) e (w .core .state) in
@@ -95,12 +95,12 @@ module _ (s : DaliBitbangPhy) (w : Whole s) (high : Bool) where
       (λ few. record { core = subst Good (on-true few (withRx c r) (finished c r)) g; loads = w .loads; counts = w .counts })
       (λ done. record { core = subst Good (on-false done (withRx c r) (finished c r)) g; loads = w .loads; counts = λ _. whole (s .core) (w .core .any) i e high done })
 
-  act-whole : (b : BusState) → s .core .bus .«bus_state» ≡ b → Whole (actOf b s (heardOf (s .core) high) high)
-  unfolding actOf coreAfter txTick heardOf
-  act-whole bus.Idle e = with-core s _ w (act-good bus.Idle (s .core) (s .«tx_hb») high e (w .core)) (idle-mark (heardOf (s .core) high) high)
+  act-whole : (b : BusState) → s .core .bus .«bus_state» ≡ b → Whole (tickIn b s (runsCounted (s .core) high) high)
+  unfolding tickIn coreAfter txTick runsCounted
+  act-whole bus.Idle e = with-core s _ w (act-good bus.Idle (s .core) (s .«tx_hb») high e (w .core)) (idle-mark (runsCounted (s .core) high) high)
   act-whole bus.Rx e = rx-whole e
-  act-whole bus.Tx e = with-core s _ w (act-good bus.Tx (s .core) (s .«tx_hb») high e (w .core)) (λ m. sym (step-mark _ (heardOf (s .core) high)) ∙ m)
-  act-whole bus.CollisionTx e = with-core s _ w (act-good bus.CollisionTx (s .core) (s .«tx_hb») high e (w .core)) (λ m. sym (break-mark (heardOf (s .core) high) high) ∙ m)
+  act-whole bus.Tx e = with-core s _ w (act-good bus.Tx (s .core) (s .«tx_hb») high e (w .core)) (λ m. sym (step-mark _ (runsCounted (s .core) high)) ∙ m)
+  act-whole bus.CollisionTx e = with-core s _ w (act-good bus.CollisionTx (s .core) (s .«tx_hb») high e (w .core)) (λ m. sym (break-mark (runsCounted (s .core) high) high) ∙ m)
 
   tick-whole : Whole (tickOf s high)
   unfolding tickOf
@@ -113,7 +113,7 @@ fits n e = leb-true n 54 (parts (not (eqb n 0)) (leb n 54) e .1)
 
 module _ (s : DaliBitbangPhy) (w : Whole s) where
   start-whole : (allowed : Bool) (hb : HalfBitBuffer) (answer : Bool) → Whole (pick {A = Started} allowed (started s hb answer) (startedWith s Busy) .station)
-  unfolding started loadedWith loaded storeOf
+  unfolding started loadedWith loaded txHbOf
   start-whole allowed hb answer =
       let P : Started → Type 0 = λ (x : Started). Whole (x .station) in
       cases P allowed

@@ -14,10 +14,10 @@ use Rattle.laws.proofs.Picked.{on-true, on-false}
 use Rattle.halfbits.specs.declared.HalfBitBuffer.{HalfBitBuffer}
 use Rattle.laws.proofs.Joined.{and-on, and-off, joins}
 use Rattle.machine.proofs.Store.{releases-loaded}
-use Rattle.machine.specs.Runs.{heardOf}
+use Rattle.machine.specs.Runs.{runsCounted}
 use Rattle.machine.specs.BecomingIdle.{idled}
 use Rattle.machine.specs.Idle.{idleTick, silent, fell}
-use Rattle.machine.specs.Sending.{Step, Arm, Yield, End, Clash, Hold, Drive, clashOf, txStep, armed, yielded, clashed, held, driven, stepped, storeOf, armedStep, releasesAt}
+use Rattle.machine.specs.Sending.{Step, Arm, Yield, End, Clash, Hold, Drive, clashOf, txStep, armed, yielded, clashed, held, driven, afterStep, txHbOf, armedStep, releasesAt}
 use Rattle.machine.specs.Starting.{loaded}
 use Rattle.fsm.specs.declared.DaliBitbangPhy.{DaliBitbangPhy}
 use Rattle.fsm.specs.Station.{withCore}
@@ -37,7 +37,7 @@ record Timed (hb : HalfBitBuffer) (n : ℕ) (t : DaliBitbangPhy) : Type 0 where
   sending : IsSending t
   waits : t .core .tx .«tx_armed» + min n 3 ≡ 3
   count : begun t ≡ n / 4
-  store : t .«tx_hb» ≡ storeOf hb
+  store : t .«tx_hb» ≡ txHbOf hb
   early : n < 4 → (t .core .tx .«tx_sp_cnt» ≡ 0) × (drives t ≡ true)
   left : 4 ≤ n → t .core .tx .«tx_sp_cnt» + n % 4 ≡ 3
   watch : 4 ≤ n → t .core .tx .«tx_high» ≡ bit (drives t)
@@ -77,24 +77,24 @@ timed-kept hb n t u same h =
 
 -- ---- a tick
 -- steps that leave Tx
-yield-leaves : (t : DaliBitbangPhy) (b : Bool) → IsSending (withCore t (stepped Yield (heardOf (t .core) b))) → ⊥
-unfolding stepped yielded idled idleTick silent fell pick
+yield-leaves : (t : DaliBitbangPhy) (b : Bool) → IsSending (withCore t (afterStep Yield (runsCounted (t .core) b))) → ⊥
+unfolding afterStep yielded idled idleTick silent fell pick
 yield-leaves t b e = idle-not-sending e
 
-end-leaves : (t : DaliBitbangPhy) (b : Bool) → IsSending (withCore t (stepped End (heardOf (t .core) b))) → ⊥
-unfolding stepped idled
+end-leaves : (t : DaliBitbangPhy) (b : Bool) → IsSending (withCore t (afterStep End (runsCounted (t .core) b))) → ⊥
+unfolding afterStep idled
 end-leaves t b e = idle-not-sending e
 
-clash-leaves : (t : DaliBitbangPhy) (b : Bool) → IsSending (withCore t (stepped Clash (heardOf (t .core) b))) → ⊥
-unfolding stepped clashed
+clash-leaves : (t : DaliBitbangPhy) (b : Bool) → IsSending (withCore t (afterStep Clash (runsCounted (t .core) b))) → ⊥
+unfolding afterStep clashed
 clash-leaves t b e = sending-not-breaking (sym e)
 
 module _ (hb : HalfBitBuffer) (short : hb .length ≤ 54) (n : ℕ) (t : DaliBitbangPhy) (h : Timed hb n t) (b : Bool) where
-  by : (x : Step) → txStep (t .core .tx) (t .core .«collision_policy») (t .«tx_hb») b ≡ x → tickOf t b ≡ withCore t (stepped x (heardOf (t .core) b))
+  by : (x : Step) → txStep (t .core .tx) (t .core .«collision_policy») (t .«tx_hb») b ≡ x → tickOf t b ≡ withCore t (afterStep x (runsCounted (t .core) b))
   by = tick-by t b (h .sending)
 
   arms : n < 3 → txStep (t .core .tx) (t .core .«collision_policy») (t .«tx_hb») b ≡ Arm → Timed hb (suc n) (tickOf t b)
-  unfolding stepped armed heardOf
+  unfolding afterStep armed runsCounted
   arms few e =
       rw (by Arm e)
       (record {
@@ -109,7 +109,7 @@ module _ (hb : HalfBitBuffer) (short : hb .length ≤ 54) (n : ℕ) (t : DaliBit
       })
 
   holds : 4 ≤ n → n % 4 < 3 → txStep (t .core .tx) (t .core .«collision_policy») (t .«tx_hb») b ≡ Hold → Timed hb (suc n) (tickOf t b)
-  unfolding stepped held heardOf
+  unfolding afterStep held runsCounted
   holds many more e =
       let same : suc n / 4 ≡ n / 4 = omega arith in
       rw (by Hold e)
@@ -126,7 +126,7 @@ module _ (hb : HalfBitBuffer) (short : hb .length ≤ 54) (n : ℕ) (t : DaliBit
 
   drives-next : 3 ≤ n → n % 4 ≡ 3 → n / 4 < hb .length
       → txStep (t .core .tx) (t .core .«collision_policy») (t .«tx_hb») b ≡ Drive (releasesAt (t .«tx_hb») (begun t)) → Timed hb (suc n) (tickOf t b)
-  unfolding stepped driven heardOf
+  unfolding afterStep driven runsCounted
   drives-next many last within e =
       let next : suc n / 4 ≡ suc (n / 4) = omega arith in
       let c : begun t ≡ n / 4 = h .count in
@@ -171,7 +171,7 @@ module _ (hb : HalfBitBuffer) (short : hb .length ≤ 54) (n : ℕ) (t : DaliBit
         simp (on-false (ap not (eq-eqb _ _ none)))
 
     len : toSend t ≡ hb .length
-    unfolding storeOf
+    unfolding txHbOf
     len = rw (h .store)
 
     module _ (within : leb (toSend t) (begun t) ≡ false) where
@@ -212,7 +212,7 @@ module _ (hb : HalfBitBuffer) (short : hb .length ≤ 54) (n : ℕ) (t : DaliBit
 
   -- ---- which ticks are a clash
   clash : 4 ≤ n → n / 4 < hb .length → IsClash (n % 4 + 2) t b → IsBreaking (tickOf t b)
-  unfolding stepped clashed storeOf
+  unfolding afterStep clashed txHbOf
   clash many small k =
       let within : begun t < toSend t = rw (h .store) (omega (arith, h .count)) in
       let told : Told (t .core .tx) (t .core .«collision_policy») (toSend t) b
@@ -234,7 +234,7 @@ module _ (hb : HalfBitBuffer) (short : hb .length ≤ 54) (n : ℕ) (t : DaliBit
     late (no many) = omega (arith, many)
 
     inside : 4 ≤ n → n / 4 < hb .length
-    unfolding stepped idled
+    unfolding afterStep idled
     inside many = go (leb (toSend t) (begun t)) refl
       where
         go : (x : Bool) → leb (toSend t) (begun t) ≡ x → n / 4 < hb .length

@@ -17,14 +17,14 @@ use Rattle.machine.specs.declared.CollisionPolicy.{CollisionPolicy}
 use Rattle.machine.specs.declared.CollisionPolicy.the-variants.{Auto, Off, On}
 use Rattle.machine.specs.declared.RxState.the-variants.{Completed}
 use Rattle.capture.specs.Samples.{bytesOf}
-use Rattle.machine.specs.Sending.{halfBitIn, storeOf, releasesAt}
+use Rattle.machine.specs.Sending.{halfBitIn, txHbOf, releasesAt}
 use Rattle.fsm.specs.declared.DaliBitbangPhy.{DaliBitbangPhy}
 use Rattle.fsm.specs.declared.StartAnswer.the-variants as start
 use Rattle.fsm.specs.declared.TxPollResult.the-variants.{Ok, Collision, Yielded}
 use Rattle.fsm.specs.Station.{lastBytes, lastCount, lastSilence}
 use Rattle.fsm.specs.Ticking.{tickOf}
 use Rattle.fsm.specs.Starting.{startTx, startAnswer}
-use Rattle.fsm.specs.Refusals.{numberOf}
+use Rattle.fsm.specs.Refusals.{startAnswerNumber}
 use Rattle.fsm.specs.Polling.{polled}
 use Rattle.fsm.specs.Calls.{tookIdle}
 use Rattle.station_theorems.specs.Calls.{Call, afterAll, NoAnswer, Reached}
@@ -61,7 +61,7 @@ pub record InIdle (s : DaliBitbangPhy) : Type 0 where
   pub counted : idleCount (tickOf s high) ≡ min (idleCount s + 1) 65535
   -- a low tick is the first or the second running, and doesn't reset the idle count
   pub after-low : NoLow s → OneLow (tickOf s low)
-  pub kept : idleCount (tickOf s low) ≡ idleCount s
+  pub not-reset : idleCount (tickOf s low) ≡ idleCount s
 
 abbrev pub IdleTicks : Type 0
 IdleTicks = (s : DaliBitbangPhy) → Reached s → IsIdle s → InIdle s
@@ -94,9 +94,9 @@ pub record Hears (s : DaliBitbangPhy) (level : ℕ → Bool) (n : ℕ) (calls : 
   pub lasts : (k : ℕ) → k ≤ 2 + n → highsRunning k level < 16
 
 -- Until then it is in Rx, and the store holds every whole byte of the levels that were heard; s is the station before the capture.
-pub record Capturing (s : DaliBitbangPhy) (level : ℕ → Bool) (heard : ℕ) (t : DaliBitbangPhy) : Type 0 where
+pub record Capturing (s : DaliBitbangPhy) (level : ℕ → Bool) (ticks : ℕ) (t : DaliBitbangPhy) : Type 0 where
   pub capturing : IsCapturing t
-  pub store : Store (captured s) level (heard / 8) (captured t)
+  pub store : Store (captured s) level (ticks / 8) (captured t)
 
 abbrev pub Captures : Type 0
 Captures =
@@ -105,14 +105,14 @@ Captures =
 
 -- The sixteenth high running writes 0xFF at the position, adds one to the count and goes Idle: an event is ready. A part-filled byte is in no
 -- slot, and bytes past the count are left from earlier captures. The next capture begins with these bytes.
-pub record Captured (s : DaliBitbangPhy) (level : ℕ → Bool) (heard : ℕ) (t : DaliBitbangPhy) : Type 0 where
+pub record Captured (s : DaliBitbangPhy) (level : ℕ → Bool) (ticks : ℕ) (t : DaliBitbangPhy) : Type 0 where
   pub idle : NoLow t
   pub ready : t .core .told .«rx_state» ≡ Completed
   pub whole : length (lastBytes t) ≡ 64
-  pub count : lastCount t ≡ min (heard / 8) 63 + 1
-  pub first : (i : ℕ) → i < heard / 8 → i < 63 → getD (lastBytes t) i 0 ≡ byteOf level i
-  pub end : getD (lastBytes t) (min (heard / 8) 63) 0 ≡ 255
-  pub rest : (i : ℕ) → heard / 8 < i → getD (lastBytes t) i 0 ≡ getD (captured s) i 0
+  pub count : lastCount t ≡ min (ticks / 8) 63 + 1
+  pub first : (i : ℕ) → i < ticks / 8 → i < 63 → getD (lastBytes t) i 0 ≡ byteOf level i
+  pub end : getD (lastBytes t) (min (ticks / 8) 63) 0 ≡ 255
+  pub rest : (i : ℕ) → ticks / 8 < i → getD (lastBytes t) i 0 ≡ getD (captured s) i 0
   pub silence : lastSilence t ≡ min (idleCount s) 255
   pub stays : captured t ≡ lastBytes t
 
@@ -156,7 +156,7 @@ pub record Armed (t : DaliBitbangPhy) : Type 0 where
 pub record ArmedFor (hb : HalfBitBuffer) (n : ℕ) (t : DaliBitbangPhy) : Type 0 where
   pub armed : n ≤ 3 → Armed t
   pub first : n ≡ 3 → (level : Bool) → Begins t level
-  pub store : n ≤ 3 → t .«tx_hb» ≡ storeOf hb
+  pub store : n ≤ 3 → t .«tx_hb» ≡ txHbOf hb
 
 -- The frame is given up, and the same tick is Idle's first low.
 pub record Yields (t : DaliBitbangPhy) : Type 0 where
@@ -261,7 +261,7 @@ pub record InBreak (ticks : ℕ) (t : DaliBitbangPhy) : Type 0 where
   pub waits : ticks ≡ 0 → drives t ≡ high
   pub pulls : 1 ≤ ticks → ticks ≤ 12 → drives t ≡ low
   pub releases : ticks ≡ 13 → drives t ≡ high
-  pub refuses : (hb : HalfBitBuffer) → (numberOf (startTx t hb .answer) ≡ 7) × (numberOf (startAnswer t hb .answer) ≡ 7)
+  pub refuses : (hb : HalfBitBuffer) → (startAnswerNumber (startTx t hb .answer) ≡ 7) × (startAnswerNumber (startAnswer t hb .answer) ≡ 7)
   pub told : polled (polled t .station) .answer ≡ Ok
 
 -- The line is sampled and the station is Idle. The after-break mark says the level; a low one is Idle's first low.

@@ -26,9 +26,9 @@ abbrev pub IsBreaking : DaliBitbangPhy → Type 0
 IsBreaking s = s .core .bus .«bus_state» ≡ bus.CollisionTx
 
 -- the station after so many ticks, each with the level that it samples
-unfoldable pub heard : ℕ → (ℕ → Bool) → DaliBitbangPhy → DaliBitbangPhy
-heard zero level s = s
-heard (suc n) level s = tickOf (heard n level s) (level n)
+unfoldable pub afterLevels : ℕ → (ℕ → Bool) → DaliBitbangPhy → DaliBitbangPhy
+afterLevels zero level s = s
+afterLevels (suc n) level s = tickOf (afterLevels n level s) (level n)
 
 -- the same where it hears itself alone: a tick samples the level that the tick before left
 unfoldable pub alone : ℕ → DaliBitbangPhy → DaliBitbangPhy

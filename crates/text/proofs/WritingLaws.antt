@@ -29,8 +29,8 @@ abbrev pub Past : List ℕ → ℕ → List ℕ → List ℕ → ℕ → Type 0
 Past text place before after next = Written (length text) text place before after next
 
 module _ (text : List ℕ) (place : ℕ) (before : List ℕ) {after : List ℕ} {next : ℕ} where
-  pub kept : Past text place before after next → Put text place before after next
-  kept w = record { past = w .0; left = w .1 }
+  pub put-of : Past text place before after next → Put text place before after next
+  put-of w = record { past = w .0; left = w .1 }
 
   pub told : Put text place before after next → Past text place before after next
   told p = (p .past, p .left)

@@ -15,7 +15,7 @@ use Rattle.window.specs.declared.Reading.{Reading}
 use Rattle.window.specs.declared.PhaseRead.{PhaseRead}
 use Rattle.window.specs.declared.PhaseRead.the-variants as read
 use Rattle.window.specs.Window.{windowWith, tickAt, peekAt}
-use Rattle.window.specs.Phase.{peekOf, weightAround, strideAround, PhaseBits, held, bits, scoreOf, storedBits, dataBit}
+use Rattle.window.specs.Phase.{peekOf, weightAround, strideAround, PhaseBits, held, weighed, scoreOf, storedBits, dataBit}
 
 -- a byte of the window, or another past the pad
 unfoldable pub byteAt : List ℕ → ℕ → ℕ → ℕ → ℕ
@@ -42,7 +42,7 @@ reading len score v = record { «bit_len» = len; score = score; bits = v }
 -- a phase's bits as the code keeps them: how many, their sum, and the stored ones as one number
 unfoldable pub summaryOf : PhaseBits → PhaseRead
 summaryOf held = read.Held
-summaryOf (bits weights) = read.Bits (reading (length weights) (scoreOf weights) (packed 2 (storedBits weights) (dataBit weights)))
+summaryOf (weighed weights) = read.Bits (reading (length weights) (scoreOf weights) (packed 2 (storedBits weights) (dataBit weights)))
 
 -- how many of the bits read so far are stored
 abbrev pub storedOf : ℕ → ℕ

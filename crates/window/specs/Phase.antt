@@ -42,26 +42,26 @@ strideAround w phase p = strideOf (centre w phase p) (early w phase p) (late w p
 -- What a phase reads: the weights of its bits, the start bit first, or that the line is held.
 pub data PhaseBits : Type 0 where
   held : PhaseBits
-  bits : List ℕ → PhaseBits
+  weighed : List ℕ → PhaseBits
 
 -- the bits with one more in front
 abbrev pub after : ℕ → PhaseBits → PhaseBits
 after weight held = held
-after weight (bits weights) = bits (weight ∷ weights)
+after weight (weighed weights) = weighed (weight ∷ weights)
 
 -- The bits from a position on, after `len` others. There is one more if the tick behind the position is still a sample and if no more than
 -- `most` were read before it. Even then the late peek, and no other, can stop the phase: eight high ticks are the idle line, and eight low
 -- ones a held line, on which the phase fails. (`left` bounds the bits still to come.)
 unfoldable pub bitsFrom : ℕ → SampleWindow → ℕ → ℤ → ℕ → ℕ → PhaseBits
-bitsFrom zero w most phase p len = bits []
+bitsFrom zero w most phase p len = weighed []
 bitsFrom (suc left) w most phase p len =
     pick (ltb (p + 1) (sampleBits w))
     (pick (leb len most)
-    (pick (eqb (peekOf w phase (p + 1)) 255) (bits [])
+    (pick (eqb (peekOf w phase (p + 1)) 255) (weighed [])
     (pick (eqb (peekOf w phase (p + 1)) 0) held
     (after (weightAround w phase p) (bitsFrom left w most phase (p + strideAround w phase p) (len + 1)))))
-    (bits []))
-    (bits [])
+    (weighed []))
+    (weighed [])
 
 -- The first bit is expected at tick 1. The 512 ticks of a window have room for 73 bits of 7 ticks or more.
 unfoldable pub bitsOf : SampleWindow → ℕ → ℤ → PhaseBits
@@ -95,7 +95,7 @@ dataOf weights = packed 256 8 (dataByte weights)
 -- A phase that failed tells of nothing but itself.
 unfoldable pub decodeOf : ℤ → PhaseBits → PhaseDecode
 decodeOf phase held = record { «bit_len» = 0; «phase_ticks» = phase; score = 0; «data» = 0 }
-decodeOf phase (bits weights) =
+decodeOf phase (weighed weights) =
     record { «bit_len» = lengthOf weights; «phase_ticks» = phase; score = scoreOf weights; «data» = dataOf weights }
 
 unfoldable pub phaseOf : SampleWindow → ℕ → ℤ → PhaseDecode

@@ -122,7 +122,7 @@ impl SampleWindow {
         ensures { λ r. ⌜ r ≡ windowOf (now (samples .entry)) «sample_count» ⌝ }
     {
         let samples: &[u8] = samples;
-        let n = kept(sample_count);
+        let n = samples_kept(sample_count);
         let mut window = SampleWindow::EMPTY;
         let mut i: usize = 0;
         while i < n {
@@ -310,7 +310,7 @@ impl SampleWindow {
 }
 
 // The samples that there are of a capture: as many as it counts, 64 if it counts more.
-pub fn kept(sample_count: u16) -> usize
+pub fn samples_kept(sample_count: u16) -> usize
     ensures { λ r. ⌜ r ≡ min «sample_count» 64 ⌝ }
 {
     let count = sample_count as usize;

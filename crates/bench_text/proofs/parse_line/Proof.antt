@@ -15,25 +15,25 @@ use Rattle.bench_text.proofs.parse_line.Tie as tie
 -- ---- what the tests say of the line
 -- there are four fields, and the first was compared
 module _ (c : tie.After-is) where
-  abbrev line : List ℕ
-  line = c .before .before .before .before .before .before .before .args .line .now
+  abbrev text : List ℕ
+  text = c .before .before .before .before .before .before .before .args .text .now
 
-  short : length line ≤ lineMax
+  short : length text ≤ lineMax
   short = c .before .before .before .before .before .if1 .left
 
-  compared : hasFields line ≡ c .is .result
+  compared : hasFields text ≡ c .is .result
   compared = by-word _ (c .before .before .before .before .count .ensures) (c .before .before .before .if2 .left) (c .before .before .field .ensures) (c .is .ensures)
 
-fields : (c : tie.Else3) → hasFields (line (c .before)) ≡ true
+fields : (c : tie.Else3) → hasFields (text (c .before)) ≡ true
 fields c = compared (c .before) ∙ not-false _ (c .if3 .left)
 
 -- the silence is a number
-silence : (c : tie.After-known-told) → Number silenceMax (silenceField (line (c .before .before .before .before .before .before))) (c .before .silence .given .0 .0)
+silence : (c : tie.After-known-told) → Number silenceMax (silenceField (text (c .before .before .before .before .before .before))) (c .before .silence .given .0 .0)
 silence c = a-number silenceMax (c .before .before .before .before .field2 .ensures) (c .before .before .before .read-byte .ensures) (c .before .silence .given .1)
 
 -- and so is the count
 count : (c : tie.After-known-told2)
-    → Number countMax (countField (line (c .before .before .before .before .before .before .before .before .before .before .before))) (c .before .count2 .given .0 .0)
+    → Number countMax (countField (text (c .before .before .before .before .before .before .before .before .before .before .before))) (c .before .count2 .given .0 .0)
 count c = a-number countMax (c .before .before .before .before .field3 .ensures) (c .before .before .before .read-byte2 .ensures) (c .before .count2 .given .1)
 
 -- ---- what the borrow checker leaves

@@ -2,7 +2,7 @@
 use borrow.Author.Needs.{needs}
 use borrow.Author.Tests.{lt-leb, le-leb}
 use Rattle.laws.proofs.Picked.{on-true, on-false}
-use Rattle.halfbits.specs.Encoding.{numberOf, encodeNumber, answerOf, writtenTo}
+use Rattle.halfbits.specs.Encoding.{encodeAnswerNumber, encodeNumber, answerOf, writtenTo}
 use Rattle.halfbits.proofs.Encodes.{few, stored, is-count, no-count}
 use Rattle.halfbits.proofs.encode_into.Statement.{statement}
 use Rattle.halfbits.proofs.encode_into.Tie as tie
@@ -11,13 +11,13 @@ is-bit-count-requires : tie.Need-is-bit-count-requires
 is-bit-count-requires c κs = search needs
 
 returns : tie.Need-returns
-unfolding answerOf numberOf encodeNumber writtenTo
+unfolding answerOf encodeAnswerNumber encodeNumber writtenTo
 returns c =
     let no-bits = no-count _ (c .if1 .taken) (c .before .is-bit-count .ensures) in
     (simp (on-false no-bits), (simp (on-false no-bits), simp (on-false no-bits)))
 
 returns-2 : tie.Need-returns-2
-unfolding answerOf numberOf encodeNumber writtenTo
+unfolding answerOf encodeAnswerNumber encodeNumber writtenTo
 returns-2 c =
     let counts = is-count _ (c .before .if1 .left) (c .before .before .is-bit-count .ensures) in
     let short = lt-leb _ _ (c .if2 .taken) in
@@ -37,7 +37,7 @@ same-length : tie.Need-same-length
 same-length c = search needs
 
 returns-3 : tie.Need-returns-3
-unfolding answerOf numberOf encodeNumber writtenTo
+unfolding answerOf encodeAnswerNumber encodeNumber writtenTo
 returns-3 c =
     let counts = is-count _ (c .before .before .before .before .before .before .before .if1 .left) (c .before .before .before .before .before .before .before .before .is-bit-count .ensures) in
     let room = le-leb _ _ (c .before .before .before .before .before .before .if2 .left) in

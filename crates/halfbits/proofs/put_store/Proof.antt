@@ -13,8 +13,8 @@ use Rattle.halfbits.specs.Code.{byteIn, bytesIn}
 use Rattle.halfbits.proofs.put_store.Statement.{statement}
 use Rattle.halfbits.proofs.put_store.Tie as tie
 
-kept : (all at : ℕ) (lent : List ℕ) {out : List ℕ} → 7 ≤ length lent → at ≤ 7 → out ≡ tabulate at (byteIn all) ++ drop at lent → length out ≡ length lent
-kept all at lent room within inv = ap length inv ∙ length-next at (byteIn all) lent (omega arith)
+keeps-length : (all at : ℕ) (lent : List ℕ) {out : List ℕ} → 7 ≤ length lent → at ≤ 7 → out ≡ tabulate at (byteIn all) ++ drop at lent → length out ≡ length lent
+keeps-length all at lent room within inv = ap length inv ∙ length-next at (byteIn all) lent (omega arith)
 
 turn : (all at : ℕ) (lent : List ℕ) {out : List ℕ} → 7 ≤ length lent → at < 7 → out ≡ tabulate at (byteIn all) ++ drop at lent
     → set out at (byteIn all at) ≡ tabulate (at + 1) (byteIn all) ++ drop (at + 1) lent
@@ -47,7 +47,7 @@ cast-out : tie.Need-cast-out Inv-loop μ-loop
 cast-out c = record { fits = omega arith }
 
 slice-write-out : tie.Need-slice-write-out Inv-loop μ-loop
-slice-write-out c = let same = kept _ _ _ (c .before .before .pre) (c .before .loop .inv .0) (c .before .loop .inv .1) in omega arith
+slice-write-out c = let same = keeps-length _ _ _ (c .before .before .pre) (c .before .loop .inv .0) (c .before .loop .inv .1) in omega arith
 
 add-at : tie.Need-add-at Inv-loop μ-loop
 add-at c = search needs
@@ -59,7 +59,7 @@ loop-again : tie.Need-loop-again Inv-loop μ-loop
 loop-again c = (omega arith, turn _ _ _ (c .before .before .pre) (c .loop-test .taken) (c .before .loop .inv .1))
 
 same-length : tie.Need-same-length Inv-loop μ-loop
-same-length c = kept _ _ _ (c .before .before .pre) (c .before .loop .inv .0) (c .before .loop .inv .1)
+same-length c = keeps-length _ _ _ (c .before .before .pre) (c .before .loop .inv .0) (c .before .loop .inv .1)
 
 returns : tie.Need-returns Inv-loop μ-loop
 returns c = done _ _ _ (c .before .loop .inv .0) (c .loop-test .left) (c .before .loop .inv .1)

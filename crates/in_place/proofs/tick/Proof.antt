@@ -37,7 +37,7 @@ use Rattle.capture.specs.declared.Samples.{Samples}
 use Rattle.capture.specs.Samples.{withByte}
 use Rattle.capture.proofs.Samples as samples
 use Rattle.capture.proofs.Samples.Laws as samples-laws
-use Rattle.machine.specs.Runs.{heardOf}
+use Rattle.machine.specs.Runs.{runsCounted}
 use Rattle.machine.specs.Fields.{withRx}
 use Rattle.machine.specs.Idle.{silent, idleTick}
 use Rattle.machine.specs.Sending.{txStep, isHold, txTick, held as kept}
@@ -63,8 +63,8 @@ use Rattle.machine.proofs.Rx as rx
 use Rattle.machine.proofs.Rx.Laws as rx-laws
 use Rattle.machine.proofs.TxHb as hb
 use Rattle.machine.proofs.TxHb.Laws as hb-laws
-use Rattle.machine.proofs.Core.heard.Symbol as heard-code
-use Rattle.machine.proofs.Core.heard.Met as heard-met
+use Rattle.machine.proofs.Core.count_runs.Symbol as count-runs-code
+use Rattle.machine.proofs.Core.count_runs.Met as count-runs-met
 use Rattle.machine.proofs.Core.count_idle.Symbol as count-idle-code
 use Rattle.machine.proofs.Core.count_idle.Met as count-idle-met
 use Rattle.machine.proofs.Core.tick_idle.Symbol as tick-idle-code
@@ -143,7 +143,7 @@ module _ {M : Type 1} (𝓤 : URA M) (H : Heap 𝓤) (A : Atoms 𝓤) (at-mem : 
 
   -- what the callees answer
   record Known (C : Calls 𝓤 H) : Type 2 where
-    heard : Computes C heard-code.name (core-data ∷ level-data ∷ []) core-data (λ a. heardOf (a .0) (a .1 .0))
+    count-runs : Computes C count-runs-code.name (core-data ∷ level-data ∷ []) core-data (λ a. runsCounted (a .0) (a .1 .0))
     count-idle : Computes C count-idle-code.name (core-data ∷ []) core-data (λ a. silent (a .0))
     tick-idle : Computes C tick-idle-code.name (core-data ∷ level-data ∷ []) core-data (λ a. idleTick (a .0) (a .1 .0))
     holds : Computes C holds-code.name (core-data ∷ hb-data ∷ level-data ∷ []) level-data (λ a. isHold (txStep (a .0 .tx) (a .0 .«collision_policy») (a .1 .0) (a .1 .1 .0)))
@@ -253,7 +253,7 @@ module _ {M : Type 1} (𝓤 : URA M) (H : Heap 𝓤) (A : Atoms 𝓤) (at-mem : 
         leaf t d is-core h r is good e out =
             core-stores t d r good (held ! is-core h) (tells (withCore t d) d is-core h refl (station-owed (withCore t d) (good, station-owes t is .1)) e out)
 
-        -- the core that has heard the level, and the station that has it
+        -- the core that has counted its runs, and the station that has it
         abbrev c : Core
         c = hears s high
 
@@ -268,8 +268,8 @@ module _ {M : Type 1} (𝓤 : URA M) (H : Heap 𝓤) (A : Atoms 𝓤) (at-mem : 
         abbrev given : Held
         given = put 2 (some (vbool high)) (put 1 (some (vptr b o)) nothing-more)
 
-        abbrev heard-locals : BusState → Held
-        heard-locals x =
+        abbrev counted-locals : BusState → Held
+        counted-locals x =
             put 6 (some (state-val x)) (put 5 (some (bus-data .val (c .bus))) (put 4 (some (core-data .val c)) (put 3 (some (core-data .val (s .core))) given)))
 
         -- Rx: what follows the filling of a byte, and the taking of a sample; where the capture then stands
@@ -325,7 +325,7 @@ module _ {M : Type 1} (𝓤 : URA M) (H : Heap 𝓤) (A : Atoms 𝓤) (at-mem : 
                 (λ few. stores-within ! b o 0 4 refl lent (held ! refl refl) refl refl refl (rx-data .typed r is-r) ∵ tells (withCore (withRxData h d) (withRx c r)) c refl has-core refl (made-of (withRx c r) (with-rx is-r) d is-d) (goes-on s high e d same few) refl)
                 (λ many. ending is-r many lent has-core refl))
 
-          idle : c .bus .«bus_state» ≡ states.Idle → Walk (heard-locals states.Idle) h body.s-6 Then
+          idle : c .bus .«bus_state» ≡ states.Idle → Walk (counted-locals states.Idle) h body.s-6 Then
           idle e =
               chooses ! 0 (tag ! refl refl (vrt ! refl (fld ! refl (stop !)))) refl ∵ reads-core h refl refl is ∵ copies ! refl (held ! refl refl) (tt, tt) ∵
               ifs ! (held ! refl refl)
@@ -334,7 +334,7 @@ module _ {M : Type 1} (𝓤 : URA M) (H : Heap 𝓤) (A : Atoms 𝓤) (at-mem : 
               tells (withCore h (silent c)) (silent c) refl refl refl (made-of (silent c) good (s .«rx_data») (fields .1 .1 .0)) (counts s high up e) refl))
               (λ down. asks ! fm (known .tick-idle .at (c, (false, tt)) (is, (refl, tt))) (also ! (held ! refl refl) (also ! (literal ! (false-lit !)) (end !))) refl (λ good. leaf h (idleTick c false) refl refl refl was good (falls s high down e) refl))
 
-          receiving : c .bus .«bus_state» ≡ states.Rx → Walk (heard-locals states.Rx) h body.s-6 Then
+          receiving : c .bus .«bus_state» ≡ states.Rx → Walk (counted-locals states.Rx) h body.s-6 Then
           receiving e =
               chooses ! 1 (tag ! refl refl (vrt ! refl (fld ! refl (stop !)))) refl ∵ reads-core h refl refl is ∵
               copies ! refl (part ! (4 ∷ []) {v = rx-data .val (c .rx)} refl refl refl (sub ! 4 refl (whole !))) (rx-data .typed (c .rx) (rx-of c is)) ∵
@@ -346,7 +346,7 @@ module _ {M : Type 1} (𝓤 : URA M) (H : Heap 𝓤) (A : Atoms 𝓤) (at-mem : 
               sampling (withEighth s high) good (fills s high full) e refl refl refl refl))
               (λ few. sampling (s .«rx_data») (fields .1 .1 .0) (keeps s high few) e refl refl refl refl)
 
-          sending : c .bus .«bus_state» ≡ states.Tx → Walk (heard-locals states.Tx) h body.s-6 Then
+          sending : c .bus .«bus_state» ≡ states.Tx → Walk (counted-locals states.Tx) h body.s-6 Then
           sending e =
               chooses ! 2 (tag ! refl refl (vrt ! refl (fld ! refl (stop !)))) refl ∵ copies ! refl (hb-loads h refl) (hb-data .typed (s .«tx_hb») (fields .1 .0)) ∵ reads-core h refl refl is ∵
               asks ! fm (known .holds .at (c, (s .«tx_hb», (high, tt))) (is, (fields .1 .0, (refl, tt)))) (also ! (held ! refl refl) (also ! (held ! refl refl) (also ! (held ! refl refl) (end !)))) refl (λ _.
@@ -358,12 +358,12 @@ module _ {M : Type 1} (𝓤 : URA M) (H : Heap 𝓤) (A : Atoms 𝓤) (at-mem : 
               asks ! fm (known .tick-tx .at (c, (s .«tx_hb», (high, tt))) (is, (fields .1 .0, (refl, tt)))) (also ! (held ! refl refl) (also ! (held ! refl refl) (also ! (held ! refl refl) (end !)))) refl (λ good.
               leaf h (txTick c (s .«tx_hb») high) refl refl refl was good (sends s high e) refl)))
 
-          breaking : c .bus .«bus_state» ≡ states.CollisionTx → Walk (heard-locals states.CollisionTx) h body.s-6 Then
+          breaking : c .bus .«bus_state» ≡ states.CollisionTx → Walk (counted-locals states.CollisionTx) h body.s-6 Then
           breaking e =
               chooses ! 3 (tag ! refl refl (vrt ! refl (fld ! refl (stop !)))) refl ∵ reads-core h refl refl is ∵
               asks ! fm (known .tick-collision-tx .at (c, (high, tt)) (is, (refl, tt))) (also ! (held ! refl refl) (also ! (held ! refl refl) (end !))) refl (λ good. leaf h (collisionTick c high) refl refl refl was good (breaks s high e) refl)
 
-          matched : (x : BusState) → c .bus .«bus_state» ≡ x → Walk (heard-locals x) h body.s-6 Then
+          matched : (x : BusState) → c .bus .«bus_state» ≡ x → Walk (counted-locals x) h body.s-6 Then
           matched states.Idle e = idle e
           matched states.Rx e = receiving e
           matched states.Tx e = sending e
@@ -373,7 +373,7 @@ module _ {M : Type 1} (𝓤 : URA M) (H : Heap 𝓤) (A : Atoms 𝓤) (at-mem : 
         begins : Fields s → Walk given s body.t-1 (atRet E Post)
         begins fields =
             reads-core s refl refl (fields .0) ∵
-            asks ! fm (known .heard .at (s .core, (high, tt)) (fields .0, (refl, tt))) (also ! (held ! refl refl) (also ! (held ! refl refl) (end !))) refl (λ is.
+            asks ! fm (known .count-runs .at (s .core, (high, tt)) (fields .0, (refl, tt))) (also ! (held ! refl refl) (also ! (held ! refl refl) (end !))) refl (λ is.
             stores-within ! b o 0 5 refl refl (part ! (5 ∷ []) refl refl refl (sub ! 5 refl (whole !))) refl refl refl (runs-data .typed (c .runs) (runs-of c is)) ∵ so-left s c (hears-runs s high) ∵
             copies ! refl (part ! (2 ∷ []) {v = bus-data .val (c .bus)} refl refl refl (sub ! 2 refl (whole !))) (bus-data .typed (c .bus) (bus-of c is)) ∵
             copies ! refl (part ! (1 ∷ []) {v = state-val (c .bus .«bus_state»)} refl refl refl (sub ! 1 refl (whole !)))
@@ -400,7 +400,7 @@ tick-spec 𝓤 H 𝓜 𝓖 𝓡 =
     (tables 𝓤 H 𝓜 𝓡 code.env .C) (tables 𝓤 H 𝓜 𝓡 code.env .Λ) #own code.function (code.unfolded 𝓤 H 𝓜 𝓡)
     (meets 𝓤 H (𝓖 .A) (𝓜 .mem) (𝓡 .run) W 𝓣
     (record {
-      heard = cites W 𝓜 𝓡 code.env fm code.calls-machine·Core·heard (heard-met.met 𝓤 H 𝓜 𝓖 𝓡);
+      count-runs = cites W 𝓜 𝓡 code.env fm code.calls-machine·Core·count_runs (count-runs-met.met 𝓤 H 𝓜 𝓖 𝓡);
       count-idle = cites W 𝓜 𝓡 code.env fm code.calls-machine·Core·count-idle (count-idle-met.met 𝓤 H 𝓜 𝓖 𝓡);
       tick-idle = cites W 𝓜 𝓡 code.env fm code.calls-machine·Core·tick-idle (tick-idle-met.met 𝓤 H 𝓜 𝓖 𝓡);
       holds = cites W 𝓜 𝓡 code.env fm code.calls-machine·Core·holds (holds-met.met 𝓤 H 𝓜 𝓖 𝓡);

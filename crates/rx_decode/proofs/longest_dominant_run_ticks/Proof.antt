@@ -57,11 +57,11 @@ Inv-loop n samples runs₀ i₀ runs i = (n ≤ 64) × (i ≤ n) × (runs .run �
 abbrev μ-loop : tie.MeasureT-loop
 μ-loop n samples runs₀ i₀ runs i = n - i
 
-kept-requires : tie.Need-kept-requires Inv-loop μ-loop
-kept-requires c κs = search needs
+samples-kept-requires : tie.Need-samples-kept-requires Inv-loop μ-loop
+samples-kept-requires c κs = search needs
 
 loop-holds : tie.Need-loop-holds Inv-loop μ-loop
-loop-holds c = (omega (arith, c .before .kept .ensures), omega arith, omega arith, ap (afterTicks (lowRuns 0 0)) (from-start _ _))
+loop-holds c = (omega (arith, c .before .samples-kept .ensures), omega arith, omega arith, ap (afterTicks (lowRuns 0 0)) (from-start _ _))
 
 array-read-after-byte : tie.Need-array-read-after-byte Inv-loop μ-loop
 array-read-after-byte c = omega arith
@@ -82,7 +82,7 @@ loop-again c =
     (omega arith, omega arith, rw (c .after-byte .ensures) (omega (arith, grown)), one-more samples _ _ _ _ (omega arith) (c .before .before .loop .inv .3) (c .after-byte .ensures))
 
 returns : tie.Need-returns Inv-loop μ-loop
-returns c = done _ _ _ _ (c .before .before .before .kept .ensures) (c .loop-test .left) (c .before .loop .inv .3)
+returns c = done _ _ _ _ (c .before .before .before .samples-kept .ensures) (c .loop-test .left) (c .before .loop .inv .3)
 
 pub longest-dominant-run-ticks-spec : {M : Type 1} → statement M
 longest-dominant-run-ticks-spec =
@@ -90,7 +90,7 @@ longest-dominant-run-ticks-spec =
     (tie.spec
     Inv-loop
     μ-loop
-    kept-requires
+    samples-kept-requires
     loop-holds
     array-read-after-byte
     after-byte-requires

@@ -1,5 +1,5 @@
 -- `fsm::DaliBitbangPhy::act` meets its contract. Assumes nothing.
-use Rattle.fsm.specs.Ticking.{actOf}
+use Rattle.fsm.specs.Ticking.{tickIn}
 use borrow.Author.Needs.{needs}
 use Rattle.fsm.proofs.DaliBitbangPhy.act.Statement.{statement}
 use Rattle.fsm.proofs.DaliBitbangPhy.act.Tie as tie
@@ -38,19 +38,19 @@ with-core-requires-3 : tie.Need-with-core-requires-3
 with-core-requires-3 c κs = search needs
 
 returns : tie.Need-returns
-unfolding actOf
+unfolding tickIn
 returns c = simp (← c .with-core .ensures, ← c .before .tick-idle .ensures, c .before .before .enum-told .given .1)
 
 returns-2 : tie.Need-returns-2
-unfolding actOf
+unfolding tickIn
 returns-2 c = simp (← c .tick-rx .ensures, c .before .enum-told2 .given .1)
 
 returns-3 : tie.Need-returns-3
-unfolding actOf
+unfolding tickIn
 returns-3 c = simp (← c .with-core2 .ensures, ← c .before .tick-tx .ensures, c .before .before .enum-told3 .given .1)
 
 returns-4 : tie.Need-returns-4
-unfolding actOf
+unfolding tickIn
 returns-4 c = simp (← c .with-core3 .ensures, ← c .before .tick-collision-tx .ensures, c .before .before .enum-told4 .given .1)
 
 pub act-spec : {M : Type 1} → statement M

@@ -4,14 +4,14 @@ use borrow.Author.Needs.{needs}
 use Rattle.fsm.proofs.DaliBitbangPhy.tick.Statement.{statement}
 use Rattle.fsm.proofs.DaliBitbangPhy.tick.Tie as tie
 
-heard-requires : tie.Need-heard-requires
-heard-requires c κs = search needs
+count-runs-requires : tie.Need-count-runs-requires
+count-runs-requires c κs = search needs
 
 act-requires : tie.Need-act-requires
 act-requires c κs = search needs
 
 returns : tie.Need-returns
-returns c = acted _ _ _ _ (c .before .heard .ensures) (c .act .ensures)
+returns c = acted _ _ _ _ (c .before .count-runs .ensures) (c .act .ensures)
 
 pub tick-spec : {M : Type 1} → statement M
-tick-spec = tie.close (tie.spec heard-requires act-requires returns)
+tick-spec = tie.close (tie.spec count-runs-requires act-requires returns)

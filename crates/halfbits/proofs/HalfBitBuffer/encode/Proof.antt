@@ -3,7 +3,7 @@ use borrow.Author.Needs.{needs}
 use mathlib.Core.Path.{refl}
 use Rattle.laws.proofs.Picked.{on-true, on-false}
 use Rattle.halfbits.specs.HalfBits.{bufferOf}
-use Rattle.halfbits.specs.Encoding.{numberOf, encodeNumber, answerOf, encodedOf}
+use Rattle.halfbits.specs.Encoding.{encodeAnswerNumber, encodeNumber, answerOf, encodedOf}
 use Rattle.halfbits.proofs.Encodes.{few, stored-alone, as-many, is-count, no-count}
 use Rattle.halfbits.proofs.HalfBitBuffer.encode.Statement.{statement}
 use Rattle.halfbits.proofs.HalfBitBuffer.encode.Tie as tie
@@ -15,7 +15,7 @@ empty-requires : tie.Need-empty-requires
 empty-requires c κs = search needs
 
 returns : tie.Need-returns
-unfolding encodedOf answerOf numberOf encodeNumber
+unfolding encodedOf answerOf encodeAnswerNumber encodeNumber
 returns c =
     let no-bits = no-count _ (c .before .if1 .taken) (c .before .before .is-bit-count .ensures) in
     (simp (c .empty .ensures, on-false no-bits), simp (on-false no-bits))
@@ -34,7 +34,7 @@ length-of-requires c κs =
     few _ (is-count _ (c .before .before .before .before .if1 .left) (c .before .before .before .before .before .is-bit-count .ensures))
 
 returns-2 : tie.Need-returns-2
-unfolding encodedOf answerOf numberOf encodeNumber bufferOf
+unfolding encodedOf answerOf encodeAnswerNumber encodeNumber bufferOf
 returns-2 c =
     let counts = is-count _ (c .before .before .before .before .before .if1 .left) (c .before .before .before .before .before .before .is-bit-count .ensures) in
     let store = stored-alone _ _ _ _ _ _ counts (c .before .before .before .before .half-bits .ensures) (c .before .before .put-store .ensures) in

@@ -1,5 +1,5 @@
 -- `machine::TxHb::of` meets its contract. Assumes nothing.
-use Rattle.machine.specs.Sending.{storeOf}
+use Rattle.machine.specs.Sending.{txHbOf}
 use borrow.Author.Needs.{needs}
 use Rattle.machine.proofs.TxHb.of.Statement.{statement}
 use Rattle.machine.proofs.TxHb.of.Tie as tie
@@ -11,7 +11,7 @@ cast-t4 : tie.Need-cast-t4
 cast-t4 c = search needs
 
 returns : tie.Need-returns
-unfolding storeOf
+unfolding txHbOf
 returns c = simp (← c .before .half-bits-in .ensures)
 
 pub of-spec : {M : Type 1} → statement M

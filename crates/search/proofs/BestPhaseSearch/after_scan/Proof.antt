@@ -6,22 +6,22 @@ use Rattle.search.specs.Search.{scannedOf}
 use Rattle.search.proofs.BestPhaseSearch.after_scan.Statement.{statement}
 use Rattle.search.proofs.BestPhaseSearch.after_scan.Tie as tie
 
-kept-requires : tie.Need-kept-requires
-kept-requires c κs = search needs
+keep-better-requires : tie.Need-keep-better-requires
+keep-better-requires c κs = search needs
 
 add-t8 : tie.Need-add-t8
 add-t8 c = search needs
 
 returns : tie.Need-returns
 unfolding scannedOf
-returns c = rw (c .before .kept .ensures, on-true (lt-ltb _ _ (c .if1 .taken)))
+returns c = rw (c .before .keep-better .ensures, on-true (lt-ltb _ _ (c .if1 .taken)))
 
 ended-requires : tie.Need-ended-requires
 ended-requires c κs = search needs
 
 returns-2 : tie.Need-returns-2
 unfolding scannedOf
-returns-2 c = rw (c .ended .ensures, c .before .before .kept .ensures, on-false (le-ltb _ _ (c .before .if1 .left)))
+returns-2 c = rw (c .ended .ensures, c .before .before .keep-better .ensures, on-false (le-ltb _ _ (c .before .if1 .left)))
 
 pub after-scan-spec : {M : Type 1} → statement M
-after-scan-spec = tie.close (tie.spec kept-requires add-t8 returns ended-requires returns-2)
+after-scan-spec = tie.close (tie.spec keep-better-requires add-t8 returns ended-requires returns-2)

@@ -5,7 +5,7 @@ use native.Mathlib.Omega.{arith}
 use lib.ListN.{length, length-set}
 use lib.Seq.{sets}
 use Rattle.text.specs.Code.{digits}
-use Rattle.text.proofs.WritingLaws.{enough, too-little, unwritten, written, kept}
+use Rattle.text.proofs.WritingLaws.{enough, too-little, unwritten, written, put-of}
 use Rattle.text.proofs.Digits.{stored-on, stored-end}
 use Rattle.text.proofs.DecimalLaws.{last-digits, length-digits}
 use borrow.Author.Needs.{needs}
@@ -27,7 +27,7 @@ returns c =
     let a = c .before .before .before .args in
     let text = digits (a .count) (a .number) in
     let over = too-little (a .count) (a .at) (a .out .now) (c .before .has-room .ensures) (c .if1 .taken) in
-    kept text (a .at) (a .out .now) (unwritten (length text) text (a .at) (a .out .now) (rw (length-digits (a .count) (a .number)) over))
+    put-of text (a .at) (a .out .now) (unwritten (length text) text (a .at) (a .out .now) (rw (length-digits (a .count) (a .number)) over))
 
 loop-holds : tie.Need-loop-holds Inv-loop μ-loop
 loop-holds c =
@@ -69,7 +69,7 @@ returns-2 c =
     let text = digits (a .count) (a .number) in
     let long = length-digits (a .count) (a .number) in
     let at = c .before .loop in
-    kept text (a .at) (a .out .now)
+    put-of text (a .at) (a .out .now)
     (written (length text) text (a .at) (a .out .now) (omega arith)
     (omega arith, stored-end last-digits (at .out) _ (a .at) (at .i) (at .rest) (c .loop-test .left) (at .inv .3)))
 

@@ -14,7 +14,7 @@ use Rattle.window.specs.declared.Reading.{Reading}
 use Rattle.window.specs.declared.PhaseDecode.{PhaseDecode}
 use Rattle.window.specs.declared.PhaseRead.{PhaseRead}
 use Rattle.window.specs.declared.PhaseRead.the-variants as read
-use Rattle.window.specs.Phase.{PhaseBits, held, bits, bitsOf, lengthOf, dataBit, storedBits, dataOf, decodeOf, phaseOf}
+use Rattle.window.specs.Phase.{PhaseBits, held, weighed, bitsOf, lengthOf, dataBit, storedBits, dataOf, decodeOf, phaseOf}
 use Rattle.window.specs.Code.{summaryOf, storedOf, placedOf}
 use Rattle.window.proofs.Bytes.{placed-is}
 use Rattle.window.proofs.SampleWindow.decode_phase.Statement.{statement}
@@ -32,7 +32,7 @@ bit ws i = omega arith
 fits : (r : PhaseBits) (x : Reading) → read.Bits x ≡ summaryOf r → x .bits < 2 ^ storedOf (x .«bit_len»)
 unfolding summaryOf
 fits held x e = clash x e
-fits (bits ws) x e = rw (same x _ e) (packed-lt 2 (storedBits ws) (dataBit ws) (λ i h. bit ws i))
+fits (weighed ws) x e = rw (same x _ e) (packed-lt 2 (storedBits ws) (dataBit ws) (λ i h. bit ws i))
 
 abbrev made : ℕ → ℤ → ℕ → ℕ → PhaseDecode
 made len phase score d = record { «bit_len» = len; «phase_ticks» = phase; score = score; «data» = d }
@@ -51,7 +51,7 @@ module _ (w : SampleWindow) (most : ℕ) (phase z : ℤ) (same-phase : z ≡ pha
     where
       go : (r : PhaseBits) → read.Held ≡ summaryOf r → decodeOf phase held ≡ decodeOf phase r
       go held h = refl
-      go (bits ws) h = clash _ (sym h)
+      go (weighed ws) h = clash _ (sym h)
 
   some : (x : Reading) {len n d : ℕ} → read.Bits x ≡ summaryOf (bitsOf w most (subℕ bias 128))
       → len ≡ pick (ltb 1 (x .«bit_len»)) (x .«bit_len» - 1) (x .«bit_len») → n ≡ storedOf (x .«bit_len») → d ≡ placedOf (x .bits) n
@@ -61,7 +61,7 @@ module _ (w : SampleWindow) (most : ℕ) (phase z : ℤ) (same-phase : z ≡ pha
     where
       go : (r : PhaseBits) → read.Bits x ≡ summaryOf r → made len phase (x .score) d ≡ decodeOf phase r
       go held h = clash x h
-      go (bits ws) h = rw (ed, en, el, same x _ h, placed-is (storedBits ws) (dataBit ws) (omega arith) (bit ws))
+      go (weighed ws) h = rw (ed, en, el, same x _ h, placed-is (storedBits ws) (dataBit ws) (omega arith) (bit ws))
 
 from-earliest-requires : tie.Need-from-earliest-requires
 from-earliest-requires c κs = search needs

@@ -43,8 +43,8 @@ Inv-loop samples sample-count samples' n window₀ i₀ window i = (n ≤ 64) ×
 abbrev μ-loop : tie.MeasureT-loop
 μ-loop samples sample-count samples' n window₀ i₀ window i = n - i
 
-kept-requires : tie.Need-kept-requires Inv-loop μ-loop
-kept-requires c κs = search needs
+samples-kept-requires : tie.Need-samples-kept-requires Inv-loop μ-loop
+samples-kept-requires c κs = search needs
 
 loop-holds : tie.Need-loop-holds Inv-loop μ-loop
 loop-holds c = (omega arith, omega arith, c .before .samples .given .0, refl)
@@ -80,7 +80,7 @@ mul-window : tie.Need-mul-window Inv-loop μ-loop
 mul-window c = omega arith
 
 returns : tie.Need-returns Inv-loop μ-loop
-returns c = done _ _ _ (c .before .loop .i) _ (c .before .before .kept .ensures) (omega arith) (c .before .loop .inv .2) (c .before .loop .inv .3)
+returns c = done _ _ _ (c .before .loop .i) _ (c .before .before .samples-kept .ensures) (omega arith) (c .before .loop .inv .2) (c .before .loop .inv .3)
 
 pub of-capture-spec : {M : Type 1} → statement M
 of-capture-spec =
@@ -88,7 +88,7 @@ of-capture-spec =
     (tie.spec
     Inv-loop
     μ-loop
-    kept-requires
+    samples-kept-requires
     loop-holds
     shared-slice-read-window
     element-write-window

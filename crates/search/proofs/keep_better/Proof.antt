@@ -1,4 +1,4 @@
--- `search::kept` meets its contract. Assumes nothing.
+-- `search::keep_better` meets its contract. Assumes nothing.
 use borrow.Author.Needs.{needs}
 use mathlib.Core.Path.{_≡_}
 use borrow.Author.Tests.{eq-eqb, ne-eqb}
@@ -7,12 +7,12 @@ use Rattle.lengths.specs.declared.BitLengths.{BitLengths}
 use Rattle.window.specs.declared.PhaseDecode.{PhaseDecode}
 use Rattle.search.specs.declared.Found.{Found}
 use Rattle.search.specs.declared.Found.the-variants.{Decode, Nothing}
-use Rattle.search.specs.Search.{keptOf}
-use Rattle.search.proofs.kept.Statement.{statement}
-use Rattle.search.proofs.kept.Tie as tie
+use Rattle.search.specs.Search.{keptBetter}
+use Rattle.search.proofs.keep_better.Statement.{statement}
+use Rattle.search.proofs.keep_better.Tie as tie
 
-stays : (best : Found) (candidate : PhaseDecode) (preferred : BitLengths) → candidate .«bit_len» ≡ 0 → best ≡ keptOf best candidate preferred
-unfolding keptOf
+stays : (best : Found) (candidate : PhaseDecode) (preferred : BitLengths) → candidate .«bit_len» ≡ 0 → best ≡ keptBetter best candidate preferred
+unfolding keptBetter
 stays Nothing candidate preferred e = rw (on-true (eq-eqb (candidate .«bit_len») 0 e))
 stays (Decode current) candidate preferred e = rw (on-true (eq-eqb (candidate .«bit_len») 0 e))
 
@@ -26,22 +26,22 @@ enum-told : tie.Need-enum-told
 enum-told c = search needs
 
 returns-2 : tie.Need-returns-2
-unfolding keptOf
+unfolding keptBetter
 returns-2 c = rw (c .enum-told .given .1, on-false (ne-eqb _ _ (c .before .before .if1 .left)))
 
 is-better-decode-requires : tie.Need-is-better-decode-requires
 is-better-decode-requires c κs = search needs
 
 returns-3 : tie.Need-returns-3
-unfolding keptOf
+unfolding keptBetter
 returns-3 c = rw (c .before .before .before .best .given .1, on-false (ne-eqb _ _ (c .before .before .before .before .before .if1 .left)), ← c .before .is-better-decode .ensures, on-true (c .if2 .taken))
 
 returns-4 : tie.Need-returns-4
-unfolding keptOf
+unfolding keptBetter
 returns-4 c = rw (c .before .before .before .best .given .1, on-false (ne-eqb _ _ (c .before .before .before .before .before .if1 .left)), ← c .before .is-better-decode .ensures, on-false (c .if2 .left))
 
-pub kept-spec : {M : Type 1} → statement M
-kept-spec =
+pub keep-better-spec : {M : Type 1} → statement M
+keep-better-spec =
     tie.close
     (tie.spec
     returns
