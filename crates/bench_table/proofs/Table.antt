@@ -24,7 +24,7 @@ use Rattle.window.specs.declared.SampleWindow.{SampleWindow}
 use Rattle.window.specs.Window.{windowOf, tickAt, peekAt}
 use Rattle.window.specs.Phase.{weighed, after, phaseOf, bitsFrom, weightAround, strideAround, strideOf, lengthOf, scoreOf, decodeOf}
 use Rattle.window.specs.Phase as phase
-use Rattle.search.specs.Search.{acceptedOf, firstOf, endedOf, scannedOf, keptOf, stepOf, firstDone, runOf}
+use Rattle.search.specs.Search.{acceptedOf, firstOf, endedOf, scannedOf, keptBetter, stepOf, firstDone, runOf}
 use Rattle.capture.specs.Samples as capture
 use Rattle.event.specs.Event.{eventOf}
 use Rattle.machine.specs.declared.RxState.the-variants.{Empty}
@@ -106,7 +106,7 @@ unfolding rows AllSay SaysRow weightOf folded halfWeight bitWeight holds setOf w
     capture.bytesOf capture.byteIn capture.samplesOf capture.wordIn capture.withByte
     tookRx isCompleted eventOf newStation newCore
     sniffedOf foundOr searchedIn ticksOf lowsFirst longestLow
-    runOf firstDone stepOf firstOf endedOf scannedOf keptOf acceptedOf
+    runOf firstDone stepOf firstOf endedOf scannedOf keptBetter acceptedOf
     phaseOf phase.bitsOf bitsFrom weightAround strideAround strideOf lengthOf scoreOf decodeOf windowOf tickAt peekAt
     packed tabulate pick
 bench-table =

@@ -8,7 +8,7 @@ use Rattle.lengths.specs.Lengths.{holds, setOf, withLengths, withLength, sniffe
 use Rattle.weight.specs.Weight.{weightOf, folded, halfWeight, bitWeight}
 use Rattle.window.specs.Window.{windowOf, tickAt, levelBefore, peekAt}
 use Rattle.window.specs.Phase.{phaseOf, bitsOf, bitsFrom, weightAround, strideAround, strideOf, lengthOf, scoreOf, dataOf, decodeOf}
-use Rattle.search.specs.Search.{acceptedOf, firstOf, endedOf, scannedOf, scanPhase, keptOf, betterOf, higherOf, stepOf, firstDone, runOf}
+use Rattle.search.specs.Search.{acceptedOf, firstOf, endedOf, scannedOf, scanPhase, keptBetter, betterOf, higherOf, stepOf, firstDone, runOf}
 use Rattle.event.specs.Event.{eventOf}
 use Rattle.rx_decode.specs.Reading.{byteOf, frameOf, sniffedOf, searchedIn, foundOr, ticksOf, lowsFirst, longestLow}
 use Rattle.text.specs.Letters.{word}
@@ -25,7 +25,7 @@ use Rattle.book.specs.Report.{answerAs, isDecodedAs, isRefusedAs, countO
 
 pub printed-case : report (word "C\t16\t11\t0ff0f0f0f0f0f0f00fffff\nC\t255\t3\t000000\nC\t0\t0\t\nC\t0\t1\t0F\n")
     ≡ word "1\tB8\t01\t0\t218\t8\t1664\n2\tFAIL\t-\t0\t0\t24\t26520\n3\tFAIL\t-\t0\t0\t0\t0\n4\tBAD\t4\nEND\t4\t1\t1\n"
-unfolding packed pick tabulate holds setOf withLengths withLength sniffedLengths weightOf folded halfWeight bitWeight windowOf tickAt levelBefore peekAt phaseOf bitsOf bitsFrom weightAround strideAround strideOf lengthOf scoreOf dataOf decodeOf acceptedOf firstOf endedOf scannedOf scanPhase keptOf betterOf higherOf stepOf firstDone runOf eventOf byteOf frameOf sniffedOf searchedIn foundOr ticksOf lowsFirst longestLow grow partedAt joinedBy sameText isDigit allDigits isDecimal valueFrom isUpTo decimalIn signedOf digitValue allHex isHex bytesOf hexDigit hexOf hexesOf isShort hasFields hasNumbers hasSamples judgedBy captureWith bookLineAs eventFor readingOf isFrame kindText dataText rowText badText endText answerAs isDecodedAs isRefusedAs countOf answersFrom reportOf report
+unfolding packed pick tabulate holds setOf withLengths withLength sniffedLengths weightOf folded halfWeight bitWeight windowOf tickAt levelBefore peekAt phaseOf bitsOf bitsFrom weightAround strideAround strideOf lengthOf scoreOf dataOf decodeOf acceptedOf firstOf endedOf scannedOf scanPhase keptBetter betterOf higherOf stepOf firstDone runOf eventOf byteOf frameOf sniffedOf searchedIn foundOr ticksOf lowsFirst longestLow grow partedAt joinedBy sameText isDigit allDigits isDecimal valueFrom isUpTo decimalIn signedOf digitValue allHex isHex bytesOf hexDigit hexOf hexesOf isShort hasFields hasNumbers hasSamples judgedBy captureWith bookLineAs eventFor readingOf isFrame kindText dataText rowText badText endText answerAs isDecodedAs isRefusedAs countOf answersFrom reportOf report
 printed-case = refl
 
 pub no-input : report [] ≡ word "END\t0\t0\t0\n"

@@ -10,7 +10,7 @@ use Rattle.lengths.specs.Lengths.{holds, setOf, withLengths, withLength, sniffe
 use Rattle.weight.specs.Weight.{weightOf, folded, halfWeight, bitWeight}
 use Rattle.window.specs.Window.{windowOf, tickAt, levelBefore, peekAt}
 use Rattle.window.specs.Phase.{phaseOf, bitsOf, bitsFrom, weightAround, strideAround, strideOf, lengthOf, scoreOf, dataOf, decodeOf}
-use Rattle.search.specs.Search.{acceptedOf, firstOf, endedOf, scannedOf, scanPhase, keptOf, betterOf, higherOf, stepOf, firstDone, runOf}
+use Rattle.search.specs.Search.{acceptedOf, firstOf, endedOf, scannedOf, scanPhase, keptBetter, betterOf, higherOf, stepOf, firstDone, runOf}
 use Rattle.event.specs.Event.{eventOf}
 use Rattle.event.specs.declared.RxCompletedEvent.{RxCompletedEvent}
 use Rattle.rx_decode.specs.declared.SniffedFrame.the-variants.{Backward8}
@@ -31,5 +31,5 @@ shortRuns = captured (0x1F ∷ 0xC3 ∷ 0xC3 ∷ 0xC3 ∷ 0xC3 ∷ 0xC3 ∷ 0xC3
 pub no-wave-read-as-a-frame :
     (sniffedOf (foundIn nineBits) ≡ record { frame = Backward8 0xFF; «phase_ticks» = pos 2; score = 184 })
     × (sniffedOf (foundIn shortRuns) ≡ record { frame = Backward8 0xFF; «phase_ticks» = pos 0; score = 213 })
-unfolding sniffedOf frameOf byteOf foundOr searchedIn eventOf runOf firstDone stepOf firstOf endedOf scannedOf scanPhase keptOf betterOf higherOf acceptedOf phaseOf bitsOf bitsFrom weightAround strideAround strideOf lengthOf scoreOf dataOf decodeOf windowOf tickAt levelBefore peekAt weightOf folded halfWeight bitWeight sniffedLengths holds setOf withLengths withLength packed pick
+unfolding sniffedOf frameOf byteOf foundOr searchedIn eventOf runOf firstDone stepOf firstOf endedOf scannedOf scanPhase keptBetter betterOf higherOf acceptedOf phaseOf bitsOf bitsFrom weightAround strideAround strideOf lengthOf scoreOf dataOf decodeOf windowOf tickAt levelBefore peekAt weightOf folded halfWeight bitWeight sniffedLengths holds setOf withLengths withLength packed pick
 no-wave-read-as-a-frame = (refl, refl)
