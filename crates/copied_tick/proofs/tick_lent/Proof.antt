@@ -171,5 +171,5 @@ tick-lent-spec 𝓤 H 𝓜 𝓖 𝓡 =
     (tables 𝓤 H 𝓜 𝓡 code.env .C) (tables 𝓤 H 𝓜 𝓡 code.env .Λ) #own code.function (code.unfolded 𝓤 H 𝓜 𝓡)
     (meets 𝓤 H (𝓖 .A) (𝓜 .mem) (𝓡 .run) (givenOf 𝓤 H 𝓜 𝓖) (tablesOf 𝓤 H 𝓜 (tables 𝓤 H 𝓜 𝓡 code.env)) (
       cited 𝓤 H Lent′ 𝓜 𝓡 code.env #in-place in-place-code.routine code.calls-in-place·tick (in-place-met.met 𝓤 H 𝓜 𝓖 𝓡),
-      cited 𝓤 H Lent′ 𝓜 𝓡 code.env #lent lent-code.routine code.calls-host·tick (lent-met.met 𝓤 H 𝓜 𝓖 𝓡),
+      cited 𝓤 H Lent′ 𝓜 𝓡 code.env #lent lent-code.routine code.calls-copied-tick·tick (lent-met.met 𝓤 H 𝓜 𝓖 𝓡),
     ))

@@ -40,7 +40,7 @@ use Rattle.capture.proofs.Samples.Laws as samples-laws
 use Rattle.machine.specs.Runs.{runsCounted}
 use Rattle.machine.specs.Fields.{withRx}
 use Rattle.machine.specs.Idle.{silent, idleTick}
-use Rattle.machine.specs.Sending.{txStep, isHold, txTick, held as kept}
+use Rattle.machine.specs.Sending.{txStep, isHold, txTick, held as held-half-bit}
 use Rattle.machine.specs.Collision.{collisionTick}
 use Rattle.machine.specs.declared.BusState.{BusState}
 use Rattle.machine.specs.declared.BusState.the-variants as states
@@ -147,7 +147,7 @@ module _ {M : Type 1} (𝓤 : URA M) (H : Heap 𝓤) (A : Atoms 𝓤) (at-mem : 
     count-idle : Computes C count-idle-code.name (core-data ∷ []) core-data (λ a. silent (a .0))
     tick-idle : Computes C tick-idle-code.name (core-data ∷ level-data ∷ []) core-data (λ a. idleTick (a .0) (a .1 .0))
     holds : Computes C holds-code.name (core-data ∷ hb-data ∷ level-data ∷ []) level-data (λ a. isHold (txStep (a .0 .tx) (a .0 .«collision_policy») (a .1 .0) (a .1 .1 .0)))
-    hold-half-bit : Computes C hold-half-bit-code.name (core-data ∷ []) core-data (λ a. kept (a .0))
+    hold-half-bit : Computes C hold-half-bit-code.name (core-data ∷ []) core-data (λ a. held-half-bit (a .0))
     tick-tx : Computes C tick-tx-code.name (core-data ∷ hb-data ∷ level-data ∷ []) core-data (λ a. txTick (a .0) (a .1 .0) (a .1 .1 .0))
     tick-collision-tx : Computes C tick-collision-tx-code.name (core-data ∷ level-data ∷ []) core-data (λ a. collisionTick (a .0) (a .1 .0))
     fill : Computes C fill-code.name (bytes-data ∷ rx-data ∷ level-data ∷ []) bytes-data (λ a. withByte (a .0) (min (a .1 .0 .«rx_pos») 63) (shifted (a .1 .0) (a .1 .1 .0)))
@@ -352,8 +352,8 @@ module _ {M : Type 1} (𝓤 : URA M) (H : Heap 𝓤) (A : Atoms 𝓤) (at-mem : 
               asks ! fm (known .holds .at (c, (s .«tx_hb», (high, tt))) (is, (fields .1 .0, (refl, tt)))) (also ! (held ! refl refl) (also ! (held ! refl refl) (also ! (held ! refl refl) (end !)))) refl (λ _.
               ifs ! (held ! refl refl)
               (λ more. asks ! fm (known .hold-half-bit .at (c, tt) (is, tt)) (also ! (held ! refl refl) (end !)) refl (λ good.
-              stores-within ! b o 0 3 refl refl (part ! (3 ∷ []) refl refl refl (sub ! 3 refl (whole !))) refl refl refl (tx-data .typed (kept c .tx) (tx-of (kept c) good)) ∵ so-left h (kept c) (holds-tx c) ∵
-              tells (withCore h (kept c)) (kept c) refl refl refl (made-of (kept c) good (s .«rx_data») (fields .1 .1 .0)) (holds s high e more) refl))
+              stores-within ! b o 0 3 refl refl (part ! (3 ∷ []) refl refl refl (sub ! 3 refl (whole !))) refl refl refl (tx-data .typed (held-half-bit c .tx) (tx-of (held-half-bit c) good)) ∵ so-left h (held-half-bit c) (holds-tx c) ∵
+              tells (withCore h (held-half-bit c)) (held-half-bit c) refl refl refl (made-of (held-half-bit c) good (s .«rx_data») (fields .1 .1 .0)) (holds s high e more) refl))
               (λ _. reads-core h refl refl is ∵
               asks ! fm (known .tick-tx .at (c, (s .«tx_hb», (high, tt))) (is, (fields .1 .0, (refl, tt)))) (also ! (held ! refl refl) (also ! (held ! refl refl) (also ! (held ! refl refl) (end !)))) refl (λ good.
               leaf h (txTick c (s .«tx_hb») high) refl refl refl was good (sends s high e) refl)))
@@ -400,7 +400,7 @@ tick-spec 𝓤 H 𝓜 𝓖 𝓡 =
     (tables 𝓤 H 𝓜 𝓡 code.env .C) (tables 𝓤 H 𝓜 𝓡 code.env .Λ) #own code.function (code.unfolded 𝓤 H 𝓜 𝓡)
     (meets 𝓤 H (𝓖 .A) (𝓜 .mem) (𝓡 .run) W 𝓣
     (record {
-      count-runs = cites W 𝓜 𝓡 code.env fm code.calls-machine·Core·count_runs (count-runs-met.met 𝓤 H 𝓜 𝓖 𝓡);
+      count-runs = cites W 𝓜 𝓡 code.env fm code.calls-machine·Core·count-runs (count-runs-met.met 𝓤 H 𝓜 𝓖 𝓡);
       count-idle = cites W 𝓜 𝓡 code.env fm code.calls-machine·Core·count-idle (count-idle-met.met 𝓤 H 𝓜 𝓖 𝓡);
       tick-idle = cites W 𝓜 𝓡 code.env fm code.calls-machine·Core·tick-idle (tick-idle-met.met 𝓤 H 𝓜 𝓖 𝓡);
       holds = cites W 𝓜 𝓡 code.env fm code.calls-machine·Core·holds (holds-met.met 𝓤 H 𝓜 𝓖 𝓡);
