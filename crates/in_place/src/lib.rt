@@ -6,9 +6,9 @@ use fsm::DaliBitbangPhy;
 use fsm::RX_IDLE_LINE_HIGH_TICKS;
 
 // Station and level are those of the by-value tick. Each state reads the core for itself, and Tx reads it again unless a half-bit goes on: the
-// compiled tick then loads only what its way needs, while one read for all ways would load the whole core. The ways that most ticks take store only
-// the group that they change. The end of a capture stores a whole station, since the fields of the last event are private to `fsm`. The compiled tick
-// copies no station even there.
+// compiled tick then loads only what its way needs, while one read for all ways would load nearly all of the core. The ways that most ticks take
+// store only the group that they change. The end of a capture stores a whole station, since the fields of the last event are private to `fsm`. The
+// compiled tick copies no station even there.
 pub fn tick(station: &mut DaliBitbangPhy, bus_is_high: bool) -> bool
     ensures { λ r. ⌜ now (station .exit) ≡ ticked (now (station .entry)) «bus_is_high» .station ⌝ }
     ensures { λ r. ⌜ r ≡ ticked (now (station .entry)) «bus_is_high» .«driven_high» ⌝ }
