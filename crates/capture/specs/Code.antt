@@ -4,6 +4,6 @@ use mathlib.Core.Bool.{Bool}
 use lib.Bits.{bitAnd, bitOr}
 use Rattle.laws.specs.Pick.{pick}
 
--- a word with some bits in the place of a mask, where a test holds
+-- If the word is hit, the bits `put` replace what the mask covers.
 unfoldable pub wordWith : ℕ → Bool → ℕ → ℕ → ℕ
 wordWith word hit mask put = pick hit (bitOr (word - bitAnd word mask) put) word

@@ -1,11 +1,11 @@
-// The sample bytes of a capture (document 01, "Machine", Rx), kept in words.
+// The 64 sample bytes of a capture (document 01, "Machine", Rx), kept in eight words.
 use window::DALI_RX_SAMPLE_BUF_LEN;
 ghost use mathlib.Core.Path.{_≡_};
 ghost use lib.ListN.{getD, replicate};
 ghost use Rattle.capture.specs.Samples.{wordsOf, byteIn, bytesOf, samplesOf, withByte};
 ghost use Rattle.capture.specs.Code.{wordWith};
 
-// Eight bytes to a word, the first at the low end of w0. Words, since what no index moves stays in registers: a tick then copies no array.
+// A word holds eight bytes, the first at its low end. Words that no index selects can stay in registers, so a tick copies no array.
 pub struct Samples {
     w0: u64,
     w1: u64,
@@ -35,7 +35,7 @@ impl Samples {
         }
     }
 
-    // A position past the last byte has none, and nothing is written.
+    // If `at` is past the last byte, nothing changes.
     pub fn with_byte(self, at: usize, byte: u8) -> Samples
         ensures { λ r. ⌜ r ≡ withByte self at byte ⌝ }
     {
@@ -55,7 +55,7 @@ impl Samples {
         }
     }
 
-    // Past the last byte: 0.
+    // Past the last byte the answer is 0.
     pub fn byte_at(self, at: usize) -> u8
         ensures { λ r. ⌜ r ≡ getD (bytesOf self) at 0 ⌝ }
     {
@@ -92,7 +92,7 @@ impl Samples {
     }
 }
 
-// The word with the bits in the place of the mask, if the position is in this word.
+// If the byte is in this word, `bits` replace what the mask covers.
 fn word_with(word: u64, hit: bool, mask: u64, bits: u64) -> u64
     ensures { λ r. ⌜ r ≡ wordWith word hit mask bits ⌝ }
 {

@@ -1,11 +1,11 @@
-// The thin form of the tick, for a host that keeps its station in one place and ticks it from an interrupt, as document 01 has it. `in_place` has the
-// form that changes it where it lies; both promise the same.
+// Document 01's thin form of the tick for an interrupt host, which lends its station. The by-value tick does the work here. `in_place` has the form
+// that changes the station where it lies, and both promise the same.
 ghost use mathlib.Core.Path.{_≡_};
 ghost use Rattle.fsm.specs.Ticking.{ticked};
 use fsm::DaliBitbangPhy;
 use fsm::Ticked;
 
-// What the by-value tick answers: its station is left behind the reference, and its level is handed back.
+// Station and level are those of the by-value tick.
 pub fn tick(station: &mut DaliBitbangPhy, bus_is_high: bool) -> bool
     ensures { λ r. ⌜ now (station .exit) ≡ ticked (now (station .entry)) «bus_is_high» .station ⌝ }
     ensures { λ r. ⌜ r ≡ ticked (now (station .entry)) «bus_is_high» .«driven_high» ⌝ }
@@ -15,7 +15,7 @@ pub fn tick(station: &mut DaliBitbangPhy, bus_is_high: bool) -> bool
     next.driven_high
 }
 
-// Either form of the lent tick, in place or copied, for whoever holds a station by value: it is lent, and handed back as the tick leaves it.
+// For a caller that holds a station by value. It chooses one of the two forms, in place or copied, and gets the station back after the tick.
 pub fn tick_lent(mut station: DaliBitbangPhy, bus_is_high: bool, in_place: bool) -> Ticked
     ensures { λ r. ⌜ r ≡ ticked station «bus_is_high» ⌝ }
 {

@@ -1,4 +1,4 @@
--- The event of a capture, and the fresh event. Assumes nothing.
+-- Document 01, "Window": the fresh event, and the event of a capture. Assumes nothing.
 use Prim.Native.Nat.{ℕ}
 use mathlib.Core.Bool.{false}
 use mathlib.Core.List.{List}
@@ -6,7 +6,7 @@ use lib.ListN.{replicate}
 use Rattle.event.specs.declared.IsrDecode.the-variants.{NotDecoded}
 use Rattle.event.specs.declared.RxCompletedEvent.{RxCompletedEvent}
 
--- Its 64 samples, how many of them count, and the ticks of silence before it. The other fields are fixed: nothing in the machine sets them.
+-- An event has 64 sample bytes, the count, and the silence before the capture in ticks. The machine never sets the other fields.
 unfoldable pub eventOf : List ℕ → ℕ → ℕ → RxCompletedEvent
 eventOf samples count silence = record {
   samples = samples;
@@ -20,6 +20,6 @@ eventOf samples count silence = record {
   «isr_decode» = NotDecoded;
 }
 
--- one fixed value (document 01, "Window"): the event of an empty capture
+-- The fresh event is that of an empty capture without silence before it.
 unfoldable pub newEvent : RxCompletedEvent
 newEvent = eventOf (replicate 64 0) 0 0

@@ -1,5 +1,5 @@
-// The event of a capture, from source document 000 (fsm.rs): what a station hands out and the readings take. `IsrDecode`, which it holds, is
-// source document 001's (manchester.rs).
+// The event of a capture, from source document 000 (fsm.rs). A station hands it out, and the readings read it. `IsrDecode` is source document 001's
+// (manchester.rs).
 ghost use mathlib.Core.Path.{_≡_};
 ghost use Rattle.event.specs.Constants.{publicConstants};
 ghost use Rattle.event.specs.Event.{eventOf, newEvent};
@@ -27,7 +27,7 @@ struct PublicConstants {
     max_samples: usize,
 }
 
-// What an event holds of a search that the interrupt made.
+// What the search found, if the interrupt has already searched.
 pub enum IsrDecode {
     NotDecoded,
     Decoded(Found),
@@ -54,7 +54,7 @@ impl RxCompletedEvent {
         RxCompletedEvent::of_capture([0; DALI_RX_SAMPLE_BUF_LEN], 0, 0)
     }
 
-    // The other fields are a fresh event's: nothing in the machine sets them.
+    // The machine sets no other field, so the others are those of a fresh event.
     pub fn of_capture(
         samples: [u8; DALI_RX_SAMPLE_BUF_LEN],
         sample_count: u16,

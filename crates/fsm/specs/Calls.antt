@@ -1,4 +1,4 @@
--- The other calls of a station that change it. Assumes nothing.
+-- Source document 000's other calls that change a station: a new policy, the after-break mark, and the take of a capture. Assumes nothing.
 use mathlib.Core.Bool.{Bool, false}
 use Rattle.laws.specs.Pick.{pick}
 use Rattle.event.specs.Event.{newEvent}
@@ -11,25 +11,26 @@ use Rattle.fsm.specs.declared.DaliBitbangPhy.{DaliBitbangPhy}
 use Rattle.fsm.specs.declared.TookIdle.{TookIdle}
 use Rattle.fsm.specs.declared.TookRx.{TookRx}
 
+-- The station has another policy, and nothing else changes.
 unfoldable pub withPolicy : DaliBitbangPhy → CollisionPolicy → DaliBitbangPhy
 withPolicy s p = withCore s (core.withPolicy (s .core) p)
 
--- the after-break mark, which is cleared by telling
+-- The call reports the after-break mark and clears it.
 unfoldable pub tookIdle : DaliBitbangPhy → TookIdle
 tookIdle s = record {
   station = withCore s (core.withTxIdleAfterBreak (s .core) false);
   idle = s .core .told .«tx_idle_after_break»;
 }
 
--- a capture is complete, and was not taken yet
+-- A capture is complete, and nobody has taken it.
 abbrev pub hasEvent : DaliBitbangPhy → Bool
 hasEvent s = isCompleted (s .core .told .«rx_state»)
 
--- Its mark is cleared; its bytes stay. Where there is none, nothing changes.
+-- The call clears the mark of that capture and leaves its bytes. If there is no such capture, nothing changes.
 unfoldable pub acknowledged : DaliBitbangPhy → DaliBitbangPhy
 acknowledged s = pick (hasEvent s) (withCore s (core.withRxState (s .core) Empty)) s
 
--- The event, and it is acknowledged; or none, which a fresh event stands for.
+-- A take hands out the last event and acknowledges it. If there is none to take, it hands out a fresh event.
 unfoldable pub tookRx : DaliBitbangPhy → TookRx
 tookRx s = record {
   station = acknowledged s;

@@ -1,4 +1,4 @@
--- Document 01, "Machine", Rx. Assumes nothing.
+-- Document 01, "Machine", Rx: a sample, the end of a capture, a tick, and the two samples that begin a capture. Assumes nothing.
 use Prim.Native.Nat.{ℕ, _+_, _*_, _%_, min}
 use mathlib.Core.Bool.{Bool, false}
 use mathlib.Core.Path.{_≡_}
@@ -17,19 +17,19 @@ use Rattle.fsm.specs.Station.{withCore, withRxData, withEvent}
 use Rattle.fsm.specs.declared.DaliBitbangPhy.{DaliBitbangPhy}
 
 -- ---- one sample
--- the byte with the sample at its low end, so that the first of eight ends on top
+-- A new sample goes to the low end of its byte, so the first of eight ends up in the top bit.
 abbrev pub shifted : Rx → Bool → ℕ
 shifted r high = r .«rx_byte» % 128 * 2 + bit high
 
--- the highs running
+-- how many samples running are high, up to 255
 unfoldable pub highRun : Rx → Bool → ℕ
 highRun r high = pick high (min (r .«rx_idle» + 1) 255) 0
 
--- whether the next sample is the eighth of its byte
+-- the next sample is the eighth of its byte
 abbrev pub eighth : Rx → Bool
 eighth r = eqb (r .«rx_bit_cnt») 7
 
--- The eighth sample moves on to the next position, but never past 63.
+-- The eighth sample moves the position on, but never past 63.
 abbrev pub filledUp : Rx → Bool → Rx
 filledUp r high = record {
   «rx_pos» = min (r .«rx_pos» + 1) 63;
@@ -39,7 +39,7 @@ filledUp r high = record {
   «rx_pre_idle» = r .«rx_pre_idle»;
 }
 
--- Any other is one sample more of the byte.
+-- Any other sample leaves the position and counts in its byte.
 abbrev pub shiftedIn : Rx → Bool → Rx
 shiftedIn r high = record {
   «rx_pos» = r .«rx_pos»;
@@ -49,19 +49,20 @@ shiftedIn r high = record {
   «rx_pre_idle» = r .«rx_pre_idle»;
 }
 
+-- how far the capture has come after one more sample
 unfoldable pub sampled : Rx → Bool → Rx
 sampled r high = pick (eighth r) (filledUp r high) (shiftedIn r high)
 
--- Eight samples a byte, so the eighth writes one. The first 63 bytes are kept; later ones overwrite slot 63.
+-- The eighth sample writes its byte at the position. All bytes past the 63rd go to slot 63.
 unfoldable pub filled : Samples → Rx → Bool → Samples
 filled samples r high = pick (eighth r) (withByte samples (min (r .«rx_pos») 63) (shifted r high)) samples
 
 -- ---- the end
--- fewer than sixteen highs running
+-- The capture goes on while fewer than sixteen samples running are high.
 abbrev pub goesOn : Rx → Bool
 goesOn r = ltb (r .«rx_idle») 16
 
--- One is added to the count, an event is ready to be taken, and the station is Idle.
+-- The count is one more than the position, for the byte that ends the capture. The capture is complete, and the station becomes Idle.
 unfoldable pub finished : Core → Rx → Core
 finished c r =
     idled
@@ -75,24 +76,25 @@ finished c r =
     }))
     Completed)
 
--- The samples so far, their count and the silence before them are the event. Bytes past the count are what earlier captures left.
+-- The capture becomes the last event: its 64 bytes, its count and the silence before it. Bytes past the count stay as earlier captures left them.
 unfoldable pub notified : DaliBitbangPhy → Core → Samples → DaliBitbangPhy
 notified s c samples = withEvent (withRxData (withCore s c) samples) samples (c .rx)
 
 -- ---- a tick
--- A station whose core (`c`) has counted its runs, and whose capture has its sample. The sixteenth high running writes 0xFF at the position and ends
--- the capture; the samples of a part-filled byte are then in no byte.
+-- The core `c` has counted its runs, and `r` and `samples` have this tick's sample. The sixteenth high running ends the capture with 0xFF at the
+-- position. The samples of a part-filled byte are lost.
 unfoldable pub wentOn : DaliBitbangPhy → Core → Rx → Samples → DaliBitbangPhy
 wentOn s c r samples =
     pick (goesOn r)
     (withRxData (withCore s (withRx c r)) samples)
     (notified s (finished c r) (withByte samples (r .«rx_pos») 255))
 
+-- Each tick in Rx takes one sample.
 unfoldable pub rxTick : DaliBitbangPhy → Core → Bool → DaliBitbangPhy
 rxTick s c high = wentOn s c (sampled (c .rx) high) (filled (s .«rx_data») (c .rx) high)
 
 -- ---- the first two samples
--- nothing sampled yet
+-- a capture without a sample, after this silence
 abbrev pub noneSampled : ℕ → Rx
 noneSampled silence = record {
   «rx_pos» = 0;
@@ -102,6 +104,6 @@ noneSampled silence = record {
   «rx_pre_idle» = silence;
 }
 
--- Where Idle starts Rx, two low samples are replayed.
+-- When Idle starts Rx, the capture stands as if Rx had taken two low samples.
 abbrev pub ReplaysTwoLows : Type 0
 ReplaysTwoLows = (c : Core) → entered c .rx ≡ sampled (sampled (noneSampled (min (c .bus .idlecnt) 255)) false) false

@@ -1,4 +1,4 @@
--- A new station, the event that a station hands out, and a station with one part changed. Assumes nothing.
+-- Document 01, "Machine": the last event of a station, a new station, and a station with one part changed. Assumes nothing.
 use Prim.Native.Nat.{ℕ}
 use mathlib.Core.Bool.{true, false}
 use mathlib.Core.List.{List}
@@ -15,19 +15,23 @@ use Rattle.machine.specs.declared.Rx.{Rx}
 use Rattle.machine.specs.declared.TxHb.{TxHb}
 use Rattle.fsm.specs.declared.DaliBitbangPhy.{DaliBitbangPhy}
 
--- of the last capture that was completed: its bytes, their count, the silence before it, and its event
+-- the 64 bytes of the last complete capture
 abbrev pub lastBytes : DaliBitbangPhy → List ℕ
 lastBytes s = bytesOf (s .«event_data»)
 
+-- its count
 abbrev pub lastCount : DaliBitbangPhy → ℕ
 lastCount s = s .«event_rx» .«rx_pos»
 
+-- the silence before it
 abbrev pub lastSilence : DaliBitbangPhy → ℕ
 lastSilence s = s .«event_rx» .«rx_pre_idle»
 
+-- its event
 abbrev pub lastEvent : DaliBitbangPhy → RxCompletedEvent
 lastEvent s = eventOf (lastBytes s) (lastCount s) (lastSilence s)
 
+-- A new station is Idle and drives high. Its policy is Auto, nothing is marked, and all counts are 0.
 unfoldable pub newCore : Core
 newCore = record {
   tx = record { «tx_hb_cnt» = 0; «tx_sp_cnt» = 0; «tx_high» = 0; «tx_armed» = 0; «tx_answer» = false };
@@ -42,7 +46,7 @@ newCore = record {
 abbrev pub noSamples : Samples
 noSamples = samplesOf (replicate 64 0)
 
--- Idle, the line high, policy Auto, nothing captured and nothing to send.
+-- A new station has captured nothing and has nothing to send.
 unfoldable pub newStation : DaliBitbangPhy
 newStation = record {
   core = newCore;
@@ -73,7 +77,7 @@ withTxHb s hb = record {
   «event_rx» = s .«event_rx»;
 }
 
--- another capture in the making
+-- other bytes in the capture under way
 abbrev pub withRxData : DaliBitbangPhy → Samples → DaliBitbangPhy
 withRxData s samples = record {
   core = s .core;
@@ -83,7 +87,7 @@ withRxData s samples = record {
   «event_rx» = s .«event_rx»;
 }
 
--- another last event: its capture, and where that stood when it ended
+-- another last event: its capture, and how far that had come when it ended
 abbrev pub withEvent : DaliBitbangPhy → Samples → Rx → DaliBitbangPhy
 withEvent s samples rx = record {
   core = s .core;

@@ -1,4 +1,4 @@
--- Document 01, "Machine": a tick. Assumes nothing.
+-- Document 01, "Machine": a tick of a station. Assumes nothing.
 use mathlib.Core.Bool.{Bool}
 use Rattle.machine.specs.Runs.{runsCounted}
 use Rattle.machine.specs.Idle.{idleTick}
@@ -12,16 +12,17 @@ use Rattle.fsm.specs.Rx.{rxTick}
 use Rattle.fsm.specs.declared.DaliBitbangPhy.{DaliBitbangPhy}
 use Rattle.fsm.specs.declared.Ticked.{Ticked}
 
--- Both run lengths are updated, and then the core (`c`) acts by state. Only Rx writes to a capture.
+-- The core `c` has counted its runs, and now the station acts by its state. Only Rx writes to a capture.
 unfoldable pub tickIn : BusState → DaliBitbangPhy → Core → Bool → DaliBitbangPhy
 tickIn bus.Idle s c high = withCore s (idleTick c high)
 tickIn bus.Rx s c high = rxTick s c high
 tickIn bus.Tx s c high = withCore s (txTick c (s .«tx_hb») high)
 tickIn bus.CollisionTx s c high = withCore s (collisionTick c high)
 
+-- A tick counts both runs, and then acts.
 unfoldable pub tickOf : DaliBitbangPhy → Bool → DaliBitbangPhy
 tickOf s high = tickIn (s .core .bus .«bus_state») s (runsCounted (s .core) high) high
 
--- the station, and the level that it then drives: the one before, where the tick sets none
+-- A tick gives back the station and the level that it drives then. If the tick sets none, that is the level from before.
 unfoldable pub ticked : DaliBitbangPhy → Bool → Ticked
 ticked s high = record { station = tickOf s high; «driven_high» = tickOf s high .core .bus .«driven_high» }

@@ -1,4 +1,4 @@
-// The station of source document 000 (fsm.rs) by value: its captures, its tick and every other call.
+// The station of source document 000 (fsm.rs): its captures, its tick and every other call. A station goes in and comes back by value.
 ghost use mathlib.Core.Path.{_≡_};
 ghost use mathlib.Core.Bool.{not};
 ghost use Prim.Native.Nat.{_+_, _-_, _*_, _%_, min};
@@ -59,7 +59,7 @@ pub enum TxPollResult {
     Yielded = 5,
 }
 
-// What a start call answers: each case has its refusal's number, and 0 is none.
+// A start call answers with the number of its refusal, or with 0 if it doesn't refuse.
 pub enum StartAnswer {
     Started = 0,
     Busy = 7,
@@ -109,8 +109,8 @@ pub fn restart_gate_for(release_to_edge_ticks: u8) -> u8
     0
 }
 
-// Three fields are public for `in_place`, which changes a station that it is lent. No promise rests on who wrote them. The other two are what the last
-// event is made of: a capture, and where it stood when it ended.
+// Three fields are public for `in_place`, which changes a station that it is lent. All promises hold whoever wrote them. The other two make the last
+// event: its capture, and how far that had come when it ended.
 pub struct DaliBitbangPhy {
     pub core: Core,
     pub tx_hb: TxHb,
@@ -141,14 +141,14 @@ pub struct TookIdle {
     pub idle: bool,
 }
 
-// Where none was completed, the event is a new one.
+// If no capture is complete, the event is a fresh one.
 pub struct TookRx {
     pub station: DaliBitbangPhy,
     pub completed: bool,
     pub event: RxCompletedEvent,
 }
 
-// The byte that a sample completes is written here.
+// All bytes past the 63rd go to slot 63.
 fn slot(rx_pos: u16) -> usize
     ensures { λ r. ⌜ r ≡ min «rx_pos» 63 ⌝ }
 {
@@ -167,7 +167,7 @@ fn next_pos(rx_pos: u16) -> u16
     MAX_RX_IDX as u16
 }
 
-// The byte with one sample more, at its low end.
+// A new sample goes to the low end of its byte.
 fn shifted(rx_byte: u8, bus_is_high: bool) -> u8
     ensures { λ r. ⌜ r ≡ «rx_byte» % 128 * 2 + bit «bus_is_high» ⌝ }
 {
@@ -187,7 +187,7 @@ fn high_run(rx: Rx, bus_is_high: bool) -> u8
     0
 }
 
-// The eighth sample fills a byte. It stands apart from the others, so that one tick in eight computes a position.
+// The eighth sample fills its byte. It has a function of its own, so that only one tick in eight computes a position.
 fn with_eighth(rx: Rx, bus_is_high: bool) -> Rx
     ensures { λ r. ⌜ r ≡ filledUp rx «bus_is_high» ⌝ }
 {
@@ -227,14 +227,14 @@ pub fn sample(rx: Rx, bus_is_high: bool) -> Rx
     with_sample(rx, bus_is_high)
 }
 
-// The capture with the byte that an eighth sample completes.
+// The eighth sample writes its byte to the capture.
 pub fn fill(rx_data: Samples, rx: Rx, bus_is_high: bool) -> Samples
     ensures { λ r. ⌜ r ≡ withByte «rx_data» (min (rx .«rx_pos») 63) (shifted rx «bus_is_high») ⌝ }
 {
     rx_data.with_byte(slot(rx.rx_pos), shifted(rx.rx_byte, bus_is_high))
 }
 
-// The capture with one byte for the idle line that ends it.
+// A capture ends with one byte for the idle line.
 pub fn with_end(rx_data: Samples, rx: Rx) -> Samples
     ensures { λ r. ⌜ r ≡ withByte «rx_data» (rx .«rx_pos») 255 ⌝ }
 {
@@ -248,7 +248,7 @@ fn with_rx(mut core: Core, rx: Rx) -> Core
     core
 }
 
-// What the calls tell of, with another mark of the capture.
+// Only the mark of the capture changes.
 fn in_rx_state(mut core: Core, rx_state: RxState) -> Core
     ensures { λ r. ⌜ r ≡ withRxState core «rx_state» ⌝ }
 {
@@ -263,7 +263,7 @@ fn in_rx_state(mut core: Core, rx_state: RxState) -> Core
     core
 }
 
-// The capture is whole: one byte more for the idle line.
+// The byte for the idle line counts too.
 pub fn end_rx(mut core: Core, rx: Rx) -> Core
     ensures { λ r. ⌜ r ≡ finished core rx ⌝ }
 {
@@ -286,7 +286,7 @@ fn length_fits(length: u8) -> bool
     length != 0 && length <= HalfBitBuffer::MAX_DATA_HALF_BITS
 }
 
-// Idle, with the line released and no low tick remembered.
+// A new station is Idle, releases the line, and has a debounce of 0.
 fn new_bus() -> Bus
     ensures { λ r. ⌜ r ≡ newCore .bus ⌝ }
 {
@@ -299,7 +299,6 @@ fn new_bus() -> Bus
     }
 }
 
-// A new station without its arrays.
 fn new_core() -> Core
     ensures { λ r. ⌜ r ≡ newCore ⌝ }
 {
@@ -397,7 +396,7 @@ impl DaliBitbangPhy {
         self
     }
 
-    // The capture that has ended is the last event.
+    // The capture that has ended becomes the last event.
     pub fn finish_rx_and_notify(mut self, core: Core, rx_data: Samples) -> DaliBitbangPhy
         ensures { λ r. ⌜ r ≡ notified self core «rx_data» ⌝ }
     {
@@ -444,7 +443,7 @@ impl DaliBitbangPhy {
         }
     }
 
-    // What a tick does by state, once the core has counted its runs.
+    // `core` is the station's core after it has counted its runs.
     fn act(self, core: Core, bus_is_high: bool) -> DaliBitbangPhy
         ensures { λ r. ⌜ r ≡ tickIn (core .bus .«bus_state») self core «bus_is_high» ⌝ }
     {
@@ -620,7 +619,7 @@ impl DaliBitbangPhy {
         self.core.bus.tx_busy
     }
 
-    // The level that the station holds the line at: what the Rust's HAL was last told.
+    // The level that the station drives. In the Rust it is the last one that the HAL was told.
     pub fn driven_high(self) -> bool
         ensures { λ r. ⌜ r ≡ self .core .bus .«driven_high» ⌝ }
     {

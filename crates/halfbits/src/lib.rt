@@ -1,4 +1,5 @@
-// The half-bits of a frame to be sent (document 01, "The wave"): one bit a half-bit, top bit first, where 1 means pull low.
+// The half-bits of a frame (document 01, "The wave"), and the encoder that makes them. Each bit of the store is a half-bit, from the top bit of the
+// first byte down. A 1 pulls the line low.
 ghost use mathlib.Core.Path.{_≡_};
 ghost use mathlib.Core.Bool.{true};
 ghost use mathlib.Core.List.{_++_};
@@ -17,7 +18,7 @@ pub struct HalfBitBuffer {
     pub length: u8,
 }
 
-// What the encoder answers: how many half-bits it wrote, or a refusal, 5 for the bit count and 6 for the buffer.
+// The encoder answers with the length in half-bits, or with a refusal: 5 for the bit count, 6 for a short buffer.
 pub enum EncodeAnswer {
     Length(u8),
     BadBitCount,
@@ -34,7 +35,7 @@ impl HalfBitBuffer {
 
     pub const MAX_DATA_HALF_BITS: u8 = 54;
 
-    // Not one half-bit: no start takes it.
+    // Its length is 0, so no start takes it.
     fn empty() -> HalfBitBuffer
         ensures { λ r. ⌜ r ≡ emptyBuffer ⌝ }
     {
@@ -44,7 +45,7 @@ impl HalfBitBuffer {
         }
     }
 
-    // A frame of 8, 16 or 24 bits as a station's start takes it. Bytes that it doesn't need are ignored.
+    // The buffer that a start takes, for a frame of 8, 16 or 24 bits. The encoder ignores the bytes that the frame doesn't need.
     pub fn encode(bits: u8, first: u8, second: u8, third: u8) -> Encoded
         ensures { λ r. ⌜ r ≡ encodedOf bits (frameOf bits first second third) ⌝ }
         ensures { λ r. ⌜ encodeAnswerNumber (r .answer) ≡ encodeNumber (isBitCount bits) true ⌝ }
@@ -65,7 +66,7 @@ impl HalfBitBuffer {
     }
 }
 
-// The same half-bits in the first seven bytes of a lent buffer.
+// Writes the same half-bits to the first seven bytes of a lent buffer.
 pub fn encode_into(bits: u8, first: u8, second: u8, third: u8, out: &mut [u8]) -> EncodeAnswer
     ensures { λ r. ⌜ r ≡ answerOf bits (length (now (out .entry))) ⌝ }
     ensures { λ r. ⌜ encodeAnswerNumber r ≡ encodeNumber (isBitCount bits) (leb 7 (length (now (out .entry)))) ⌝ }
@@ -93,7 +94,7 @@ fn is_bit_count(bits: u8) -> bool
     bits == 24
 }
 
-// Two half-bits for the start and for each bit, and four released ones.
+// The start bit and each data bit have two half-bits. Four released ones follow.
 fn length_of(bits: u8) -> u8
     requires { ⌜ bits ≤ 24 ⌝ }
     ensures { λ r. ⌜ r ≡ halfBitsOf bits ⌝ }
@@ -101,8 +102,8 @@ fn length_of(bits: u8) -> u8
     2 * (1 + bits) + 4
 }
 
-// All 56 half-bits of the store as one number, the first on top. A bit is two of them: 10 for a logical 1, and so for the start, and 01
-// for a logical 0. Those that no bit has are released.
+// The 56 half-bits of the store as one number, the first on top. A logical 1, such as the start bit, is 10, and a logical 0 is 01. The half-bits
+// after the last bit are released, so they are 0.
 fn half_bits(bits: u8, bytes: [u8; 3]) -> u64
     requires { ⌜ bits ≤ 24 ⌝ }
     ensures { λ r. ⌜ r ≡ halfBits (tabulate bits (bitAt bytes)) ⌝ }
@@ -118,7 +119,7 @@ fn half_bits(bits: u8, bytes: [u8; 3]) -> u64
     all << (54 - 2 * bits)
 }
 
-// The store's bytes, in front of what else the buffer holds.
+// Writes the seven bytes of the store. Later bytes of the buffer stay.
 fn put_store(all: u64, out: &mut [u8])
     requires { ⌜ 7 ≤ length (now out) ⌝ }
     ensures { λ r. ⌜ now (out .exit) ≡ bytesIn all ++ drop 7 (now (out .entry)) ⌝ }

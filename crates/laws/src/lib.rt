@@ -1,1 +1,1 @@
-// Definitions and laws that no one crate owns. There is no code here.
+// Definitions and laws that several crates share. This crate has no code.

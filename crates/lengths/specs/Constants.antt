@@ -1,4 +1,4 @@
--- The public constant that is a number; Lengths has those that are sets. Assumes nothing.
+-- Document 01, "The wave": the public constant that is a number. Lengths has the two that are sets. Assumes nothing.
 use Rattle.lengths.specs.declared.PublicConstants.{PublicConstants}
 
 abbrev pub publicConstants : PublicConstants

@@ -1,4 +1,4 @@
-// Sets of preferred frame lengths, from source document 001 (manchester.rs).
+// Sets of preferred lengths, from source document 001 (manchester.rs).
 ghost use mathlib.Core.Path.{_≡_};
 ghost use mathlib.Core.List.{[], _∷_};
 ghost use Rattle.lengths.specs.Lengths.{holds, withLength, setOf, sniffedLengths, backwardLengths, HoldsJust};
@@ -45,17 +45,17 @@ impl BitLengths {
     }
 }
 
-// A constant can't call `of`, so the sets stand here as numbers, and the promises of `sniffed` and `backward` say what they are.
+// A constant can't call `of`, so these two sets are written as numbers. The promises of `sniffed` and `backward` say which lengths they hold.
 
 // The lengths 8, 16 and 24.
 pub const SNIFFED_BIT_LENGTHS: BitLengths = BitLengths(0x0101_0100);
 
-// The length 8 alone. From source document 003 (rx_decode.rs), which stands above this crate.
+// The length 8 alone. Source document 003 (rx_decode.rs) has this set; it is here since only this crate can write a set as a number.
 pub const BACKWARD_FRAME_BIT_LENGTHS: BitLengths = BitLengths(0x0000_0100);
 
 pub const FORWARD24_BITS: u8 = 24;
 
-// Nobody calls this, nor the next two: their promises say what the public constants are.
+// Nobody calls this function or the next two. Their promises say what the public constants are.
 fn constants() -> PublicConstants
     ensures { λ r. ⌜ r ≡ publicConstants ⌝ }
 {

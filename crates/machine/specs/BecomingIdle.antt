@@ -4,7 +4,7 @@ use Rattle.machine.specs.Fields.{withBus}
 use Rattle.machine.specs.declared.BusState.the-variants.{Idle}
 use Rattle.machine.specs.declared.Core.{Core}
 
--- The idle count is set to the current high run. The line is released, no low tick is remembered, and nothing is being sent.
+-- The station takes the current high run for its idle count, clears the debounce, releases the line and is no longer busy.
 unfoldable pub idled : Core → Core
 idled c = withBus c (record {
   idlecnt = c .runs .«high_run_ticks»;

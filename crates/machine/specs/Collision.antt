@@ -1,4 +1,4 @@
--- Document 01, "Machine", Collision. Assumes nothing.
+-- Document 01, "Machine", Collision: the break, and the sample after it. Assumes nothing.
 use Prim.Native.Nat.{_+_, _%_}
 use mathlib.Core.Bool.{Bool, false}
 use lib.Dec.{ltb, leb}
@@ -8,13 +8,14 @@ use Rattle.machine.specs.BecomingIdle.{idled}
 use Rattle.machine.specs.Idle.{idleTick}
 use Rattle.machine.specs.declared.Core.{Core}
 
--- The line is sampled and the station is Idle. A high sample marks the line as idle after the break; a low one counts as Idle's first low.
+-- The station samples the line after its break and becomes Idle. A high sample sets the after-break mark. A low sample clears it and counts as Idle's
+-- first low tick.
 unfoldable pub broke : Core → Bool → Core
 broke c high =
     let idle = idled (withTxIdleAfterBreak c high) in
     pick high idle (idleTick idle false)
 
--- Twelve ticks low, released on the thirteenth, sampled on the fourteenth.
+-- The break pulls the line low for 12 ticks. The 13th tick releases it, and the 14th samples it.
 unfoldable pub collisionTick : Core → Bool → Core
 collisionTick c high =
     let ticks = (c .tx .«tx_sp_cnt» + 1) % 256 in

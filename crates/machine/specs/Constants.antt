@@ -1,7 +1,7 @@
--- The public constants, which are source document 000's. Assumes nothing.
+-- Document 01, "Machine": the public constants. Assumes nothing.
 use Rattle.machine.specs.declared.PublicConstants.{PublicConstants}
 
--- a break is 1,200 microseconds, rounded up to ticks
+-- The break lasts 1,200 microseconds, rounded up to whole ticks.
 abbrev pub publicConstants : PublicConstants
 publicConstants = record {
   «rx_idle_line_high_ticks» = 16;

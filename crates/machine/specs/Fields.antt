@@ -1,4 +1,4 @@
--- A core with one of its groups, or one field of a group, set anew; nothing else changes. Assumes nothing.
+-- A core with one of its groups, or one field of a group, changed. Nothing else changes. Assumes nothing.
 use Prim.Native.Nat.{ℕ}
 use mathlib.Core.Bool.{Bool}
 use Rattle.machine.specs.declared.BusState.{BusState}
@@ -12,6 +12,7 @@ use Rattle.machine.specs.declared.Tx.{Tx}
 use Rattle.machine.specs.declared.Core.{Core}
 
 -- ---- groups
+-- a core by its groups
 abbrev pub coreOf : Told → CollisionPolicy → Bus → Tx → Rx → Runs → Core
 coreOf told policy bus tx rx runs = record {
   told = told;
@@ -22,6 +23,7 @@ coreOf told policy bus tx rx runs = record {
   runs = runs;
 }
 
+-- the core with one group changed
 abbrev pub withTold : Core → Told → Core
 withTold c told = coreOf told (c .«collision_policy») (c .bus) (c .tx) (c .rx) (c .runs)
 
@@ -40,7 +42,7 @@ withRx c rx = coreOf (c .told) (c .«collision_policy») (c .bus) (c .tx) rx (c 
 abbrev pub withRuns : Core → Runs → Core
 withRuns c runs = coreOf (c .told) (c .«collision_policy») (c .bus) (c .tx) (c .rx) runs
 
--- ---- fields of the bus
+-- ---- fields of the bus: the core with one of them changed
 abbrev pub withIdlecnt : Core → ℕ → Core
 withIdlecnt c ticks = withBus c (record {
   idlecnt = ticks;
@@ -86,7 +88,7 @@ withTxBusy c busy = withBus c (record {
   «tx_busy» = busy;
 })
 
--- ---- fields of what is told
+-- ---- fields of what calls report: the same
 abbrev pub withRxState : Core → RxState → Core
 withRxState c state = withTold c (record {
   «tx_pre_idle» = c .told .«tx_pre_idle»;
@@ -123,7 +125,7 @@ withTxYielded c yielded = withTold c (record {
   «tx_yielded» = yielded;
 })
 
--- ---- fields of a frame that is being sent
+-- ---- fields of the frame that the station sends: the same
 abbrev pub withTxSpCnt : Core → ℕ → Core
 withTxSpCnt c ticks = withTx c (record {
   «tx_hb_cnt» = c .tx .«tx_hb_cnt»;

@@ -1,4 +1,4 @@
--- Document 01, "Machine", Idle. Assumes nothing.
+-- Document 01, "Machine", Idle: high ticks, low ticks, and the way into Rx. Assumes nothing.
 use Prim.Native.Nat.{_+_, min}
 use mathlib.Core.Bool.{Bool}
 use lib.Dec.{ltb}
@@ -8,8 +8,8 @@ use Rattle.machine.specs.declared.BusState.the-variants as bus
 use Rattle.machine.specs.declared.RxState.the-variants.{Receiving}
 use Rattle.machine.specs.declared.Core.{Core}
 
--- Rx begins: the silence before it is kept, up to 255 ticks, and two low samples are replayed, this tick's own among them: of the first byte
--- two samples are there, both low. (That two samples of Rx come to this: fsm's specs/Rx.)
+-- Rx begins. The station keeps the idle count as the silence before the capture, up to 255 ticks. It replays two low samples, this tick's among them,
+-- so the first byte has two samples, both low. (`ReplaysTwoLows` in fsm says that two samples of Rx come to the same.)
 unfoldable pub entered : Core → Core
 entered c =
     withRxState
@@ -22,14 +22,14 @@ entered c =
     }))
     Receiving
 
--- A high tick is counted, up to 65,535, and ends a debounce.
+-- A high tick adds one to the idle count, up to 65,535, and clears the debounce.
 unfoldable pub silent : Core → Core
 silent c = withRxDebounce (withIdlecnt c (min (c .bus .idlecnt + 1) 65535)) 0
 
--- A low tick is remembered, and leaves the idle count as it is.
+-- A low tick adds one to the debounce, up to 255, and leaves the idle count as it is.
 unfoldable pub fell : Core → Core
 fell c = withRxDebounce c (min (c .bus .«rx_debounce» + 1) 255)
 
--- One low tick alone is only remembered, and the second running starts Rx.
+-- The first low tick only counts in the debounce. The second one running starts Rx.
 unfoldable pub idleTick : Core → Bool → Core
 idleTick c high = pick high (silent c) (pick (ltb (fell c .bus .«rx_debounce») 2) (fell c) (entered (fell c)))

@@ -5,8 +5,8 @@ use Rattle.machine.specs.declared.BusState.the-variants.{Tx}
 use Rattle.machine.specs.declared.RxState.the-variants.{Empty}
 use Rattle.machine.specs.declared.Core.{Core}
 
--- It clears Yielded, Collision and the after-break mark, drops a capture not yet taken, and records the idle count. The debounce is kept.
--- Three ticks are armed.
+-- The station clears what a poll would report, the after-break mark, and the mark of a capture that nobody has taken. It records the idle count,
+-- keeps its debounce, and is armed for three ticks.
 unfoldable pub loaded : Core → Bool → Core
 loaded c answer =
     withTx

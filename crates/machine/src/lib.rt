@@ -1,5 +1,5 @@
-// The machine of source document 000 (fsm.rs) from core to core: what a tick does in Idle, Tx and Collision, what each tick does first, and what
-// a start does. Rx, which writes to captures, is the station's (fsm).
+// The part of source document 000's machine (fsm.rs) that touches no capture: what each tick does first, Idle, Tx, Collision, becoming Idle, and
+// starts. Rx writes captures, so `fsm` has it.
 ghost use mathlib.Core.Path.{_≡_};
 ghost use Prim.Native.Nat.{_+_, _-_, _%_, _<_, min};
 ghost use Rattle.machine.specs.Constants.{publicConstants};
@@ -25,7 +25,7 @@ pub const TX_ARM_LEAD_TICKS: u8 = 3;
 // IEC 62386-101, Table 25
 const COLLISION_BREAK_MIN_US: u32 = 1_200;
 
-// As many ticks as the break lasts at least, rounded up.
+// The break must not be shorter, so the ticks are rounded up.
 pub const COLLISION_BREAK_TICKS: u8 = ((COLLISION_BREAK_MIN_US + PHY_TICK_US - 1)
     / PHY_TICK_US) as u8;
 
@@ -33,7 +33,7 @@ const COLLISION_CHECK_TICK: u8 = COLLISION_BREAK_TICKS + 2;
 
 const BACKWARD_FRAME_HALF_BITS: u8 = 22;
 
-// As many as the bytes of a buffer hold.
+// Each byte of the store holds eight half-bits.
 const STORED_HALF_BITS: u8 = 8 * HalfBitBuffer::DATA_LEN as u8;
 
 // Nobody calls this: its promise says what each public constant is.
@@ -109,7 +109,7 @@ fn collision_policy_number(collision_policy: CollisionPolicy) -> u8
     }
 }
 
-// Questions about a state, since two states can't be compared.
+// The language can't compare two states, so each question about a state is a function.
 impl BusState {
     pub fn is_idle(self) -> bool
         ensures { λ r. ⌜ r ≡ isIdle self ⌝ }
@@ -157,13 +157,13 @@ impl RxState {
     }
 }
 
-// How long the line has had its level.
+// For how many ticks the line has been high, and for how many low.
 pub struct Runs {
     pub high_run_ticks: u16,
     pub low_run_ticks: u16,
 }
 
-// What becoming Idle sets, all of it.
+// Becoming Idle sets all of these fields.
 pub struct Bus {
     pub idlecnt: u16,
     pub bus_state: BusState,
@@ -172,7 +172,7 @@ pub struct Bus {
     pub tx_busy: bool,
 }
 
-// Where a capture stands.
+// How far a capture has come, and the silence before it.
 pub struct Rx {
     pub rx_pos: u16,
     pub rx_byte: u8,
@@ -181,7 +181,7 @@ pub struct Rx {
     pub rx_pre_idle: u8,
 }
 
-// What the calls tell of, and a start sets anew, all of it.
+// What calls report. A start sets all of these fields.
 pub struct Told {
     pub tx_pre_idle: u16,
     pub rx_state: RxState,
@@ -190,7 +190,7 @@ pub struct Told {
     pub tx_yielded: bool,
 }
 
-// Where a frame that is being sent stands.
+// How far the station has sent its frame.
 pub struct Tx {
     pub tx_high: u8,
     pub tx_armed: u8,
@@ -199,16 +199,16 @@ pub struct Tx {
     pub tx_answer: bool,
 }
 
-// The half-bits to be sent, the first on top of 64, and how many. As numbers they stay in registers, where an array would be copied at each
-// tick. The length takes as much room as the half-bits, since a gap behind it would be copied byte by byte.
+// The half-bits to send, the first in the top bit of 64, and their length. Numbers stay in registers, while each tick would copy an array. The length
+// is as wide as the half-bits, since the compiler would copy a gap behind it byte by byte.
 pub struct TxHb {
     pub tx_hb_bits: u64,
     pub tx_hb_len: u64,
 }
 
-// A station without its captures and half-bits. A change of a group is one literal that names all its fields: the compiler then keeps the
-// fields apart. A group is bound first where an enum of it is handed on, since no enum is read at depth. The order of the groups, and of Tx's
-// fields, was chosen by the clock, and no group has a gap.
+// A station without its captures and half-bits. A function changes a group by one literal that names all its fields: the compiler then keeps the
+// fields apart. If it hands on an enum, it binds the group first, since the prover covers no enum that is read at depth. Timing decided the order of
+// the groups and of Tx's fields. No group has a gap between its fields.
 pub struct Core {
     pub told: Told,
     pub collision_policy: CollisionPolicy,
@@ -218,7 +218,7 @@ pub struct Core {
     pub runs: Runs,
 }
 
-// A sum takes fewer steps than a choice between two answers: 1 is added, or 0 at the greatest.
+// What a counter adds: 1, or 0 at its limit. A sum takes fewer steps than a choice between two values.
 fn room16(x: u16) -> u16
     ensures { λ r. ⌜ r ≡ min (x + 1) 65535 - x ⌝ }
 {
@@ -267,7 +267,7 @@ pub fn wrapping_inc8(x: u8) -> u8
     0
 }
 
-// The silence before a capture is kept in one byte.
+// A capture keeps the silence before it in one byte.
 fn pre_idle(idlecnt: u16) -> u8
     ensures { λ r. ⌜ r ≡ min idlecnt 255 ⌝ }
 {
@@ -278,7 +278,7 @@ fn pre_idle(idlecnt: u16) -> u8
 }
 
 impl TxHb {
-    // What a start loads.
+    // A start keeps the half-bits of a buffer in this form.
     pub fn of(halfbits: HalfBitBuffer) -> TxHb
         ensures { λ r. ⌜ r ≡ txHbOf halfbits ⌝ }
     {
@@ -290,7 +290,7 @@ impl TxHb {
     }
 }
 
-// The half-bits of the bytes, first byte first, on top of 64.
+// The half-bits of the seven bytes, in the top 56 bits of 64.
 fn half_bits_in(data: [u8; HalfBitBuffer::DATA_LEN]) -> u64
     ensures { λ r. ⌜ r ≡ halfBitsIn «data» ⌝ }
 {
@@ -313,7 +313,7 @@ fn watches(collision_policy: CollisionPolicy, tx_hb_len: u64) -> bool
     }
 }
 
-// Whether the line is left high in a half-bit.
+// A half-bit of 0 releases the line.
 fn releases(tx_hb: TxHb, tx_hb_cnt: u8) -> bool
     requires { ⌜ «tx_hb_cnt» < 64 ⌝ }
     ensures { λ r. ⌜ r ≡ releasesAt «tx_hb» «tx_hb_cnt» ⌝ }
@@ -322,8 +322,8 @@ fn releases(tx_hb: TxHb, tx_hb_cnt: u8) -> bool
 }
 
 impl Tx {
-    // A low line where this station released it. Only the third and the fourth tick of a half-bit are watched: on them two ticks or one
-    // are left of it.
+    // A clash: the line is low although this station has released it. The station watches only the third and fourth ticks of a half-bit, when
+    // `tx_sp_cnt` is 2 and 1.
     fn collision_detected(self, policy: CollisionPolicy, tx_hb_len: u64, bus_is_high: bool) -> bool
         ensures { λ r. ⌜ r ≡ clashOf self policy «tx_hb_len» «bus_is_high» ⌝ }
     {
@@ -335,7 +335,7 @@ impl Tx {
 }
 
 impl Core {
-    // Both run lengths, which each tick counts before it acts.
+    // Each tick does this before it acts.
     pub fn count_runs(mut self, bus_is_high: bool) -> Core
         ensures { λ r. ⌜ r ≡ runsCounted self «bus_is_high» ⌝ }
     {
@@ -357,7 +357,7 @@ impl Core {
         self
     }
 
-    // IEC 62386-101, 7.2.2: the silence is counted from the line's last low, and not from here.
+    // IEC 62386-101, 7.2.2: silence counts from the line's last low tick on, not from becoming Idle.
     pub fn set_bus_idle(mut self) -> Core
         ensures { λ r. ⌜ r ≡ idled self ⌝ }
     {
@@ -372,7 +372,7 @@ impl Core {
         self
     }
 
-    // Rx with the low ticks that the debounce waited for as its first samples.
+    // The low ticks that the debounce waited for are the first samples of the capture.
     fn start_rx(mut self) -> Core
         ensures { λ r. ⌜ r ≡ entered self ⌝ }
     {
@@ -417,7 +417,7 @@ impl Core {
         low.start_rx()
     }
 
-    // A high tick of Idle.
+    // A high tick in Idle.
     pub fn count_idle(mut self) -> Core
         ensures { λ r. ⌜ r ≡ silent self ⌝ }
     {
@@ -435,7 +435,7 @@ impl Core {
         self
     }
 
-    // A low tick of Idle is remembered.
+    // A low tick in Idle counts in the debounce.
     fn debounce(mut self) -> Core
         ensures { λ r. ⌜ r ≡ fell self ⌝ }
     {
@@ -478,7 +478,7 @@ impl Core {
         self
     }
 
-    // Somebody else was first. The low tick that told so is Idle's first.
+    // Another station was first. Its low tick is also Idle's first low tick.
     fn yield_tx(mut self) -> Core
         ensures { λ r. ⌜ r ≡ yielded self ⌝ }
     {
@@ -537,7 +537,7 @@ impl Core {
         self
     }
 
-    // Whether a tick of Tx is one tick more of a half-bit, as most are.
+    // Whether this tick of Tx only goes on with a half-bit, as most ticks do.
     pub fn holds(self, tx_hb: TxHb, bus_is_high: bool) -> bool
         ensures { λ r. ⌜ r ≡ isHold (txStep (self .tx) (self .«collision_policy») «tx_hb» «bus_is_high») ⌝ }
     {
@@ -555,7 +555,7 @@ impl Core {
         self.tx.tx_sp_cnt != 0
     }
 
-    // One tick more of a half-bit.
+    // The half-bit goes on for one tick.
     pub fn hold_half_bit(mut self) -> Core
         ensures { λ r. ⌜ r ≡ held self ⌝ }
     {
@@ -571,7 +571,7 @@ impl Core {
         self
     }
 
-    // The first tick of a half-bit; three are left.
+    // The first tick of a half-bit.
     fn drive_half_bit(mut self, high: bool) -> Core
         ensures { λ r. ⌜ r ≡ driven self high ⌝ }
     {
@@ -597,7 +597,7 @@ impl Core {
         self
     }
 
-    // The first rule that fits.
+    // The first rule that fits decides.
     pub fn tick_tx(self, tx_hb: TxHb, bus_is_high: bool) -> Core
         ensures { λ r. ⌜ r ≡ txTick self «tx_hb» «bus_is_high» ⌝ }
     {
@@ -621,7 +621,7 @@ impl Core {
         self.drive_half_bit(releases(tx_hb, self.tx.tx_hb_cnt))
     }
 
-    // IEC 62386-101, 9.1.4: whoever finds the line high after its own break may go first.
+    // IEC 62386-101, 9.1.4: a station that finds the line high after its break may go first.
     fn leave_collision_tx(mut self, bus_is_high: bool) -> Core
         ensures { λ r. ⌜ r ≡ broke self «bus_is_high» ⌝ }
     {

@@ -1,4 +1,4 @@
--- Document 01, "Reading": each kind of answer with its number of bits and its bytes. Assumes nothing.
+-- Document 01, "Reading": what each frame kind says about the decode. Assumes nothing.
 use Prim.Native.Nat.{ℕ, _/_, _%_}
 use mathlib.Core.List.{List, [], _∷_}
 use mathlib.Core.Path.{_≡_}
@@ -12,15 +12,16 @@ use Rattle.rx_decode.specs.declared.BackwardByte.{BackwardByte}
 use Rattle.rx_decode.specs.declared.BackwardByte.the-variants.{Byte, NoByte}
 use Rattle.rx_decode.specs.Reading.{byteOf}
 
--- a decode of so many bits was found, and of its bytes these are the first
+-- There is a decode of `bits` bits, and its first bytes are `bytes`.
 unfoldable pub IsFrame : ℕ → List ℕ → Found → Type 0
 IsFrame bits bytes found = (d : PhaseDecode) × (found ≡ Decode d) × (d .«bit_len» ≡ bits) × (tabulate (bits / 8) (byteOf (d .«data»)) ≡ bytes)
 
--- a decode of so many bits was found, and it is none of the three frames
+-- There is a decode of `bits` bits, and no frame has that many.
 unfoldable pub IsOther : ℕ → Found → Type 0
 IsOther bits found = (d : PhaseDecode) × (found ≡ Decode d) × (d .«bit_len» ≡ bits) × (bits ≡ 8 → ⊥) × (bits ≡ 16 → ⊥) × (bits ≡ 24 → ⊥)
 
--- what each kind says of the decode that it was read from
+-- A frame says the length and the bytes of the decode. UnsupportedLength says only a length, which no frame has. DecodeFailed says that there is no
+-- decode.
 unfoldable pub SaysFrame : SniffedFrame → Found → Type 0
 SaysFrame (Backward8 byte) found = IsFrame 8 (byte ∷ []) found
 SaysFrame (Forward16 word) found = IsFrame 16 (word / 256 ∷ word % 256 ∷ []) found
@@ -28,7 +29,7 @@ SaysFrame (Forward24 first second third) found = IsFrame 24 (first ∷ second �
 SaysFrame (UnsupportedLength bits) found = IsOther bits found
 SaysFrame DecodeFailed found = found ≡ Nothing
 
--- and what a backward byte says, or that there is none
+-- A backward byte is the byte of a decode of 8 bits. NoByte says that there is no such decode.
 unfoldable pub SaysByte : BackwardByte → Found → Type 0
 SaysByte (Byte byte) found = IsFrame 8 (byte ∷ []) found
 SaysByte NoByte found = (byte : ℕ) → IsFrame 8 (byte ∷ []) found → ⊥

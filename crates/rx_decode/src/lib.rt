@@ -85,7 +85,7 @@ pub fn decode_sniffed_with_phase(ev: RxCompletedEvent) -> SniffedDecode
     }
 }
 
-// What the event holds of a finished search, and only where it holds none what a new one finds.
+// The event's own finished search counts. Only if the event holds none does the reading search.
 fn found_in(ev: RxCompletedEvent) -> Found
     ensures { λ r. ⌜ r ≡ foundIn ev ⌝ }
 {
@@ -116,14 +116,14 @@ pub fn is_line_held(ev: RxCompletedEvent) -> bool
     LINE_HELD_TICKS <= longest_dominant_run_ticks(ev)
 }
 
-// The low runs of some ticks: the longest, and the one that goes on at the last tick.
+// The longest low run so far, and the low run at the last tick, which is 0 if that was high.
 struct LowRuns {
     best: u16,
     run: u16,
 }
 
 impl LowRuns {
-    // One tick more, 0 for low.
+    // One more tick. Its level is 0 for low.
     fn after_tick(self, level: u8) -> LowRuns
         requires { ⌜ (self .run) ≤ 511 ⌝ }
         ensures { λ r. ⌜ r ≡ afterTick self level ⌝ }
@@ -139,7 +139,7 @@ impl LowRuns {
         LowRuns { best, run: 0 }
     }
 
-    // Eight ticks more, the top bit first. A run goes on from one byte into the next.
+    // Eight more ticks, the top bit first. A run goes on from one byte into the next.
     fn after_byte(self, byte: u8) -> LowRuns
         requires { ⌜ (self .run) ≤ 504 ⌝ }
         ensures { λ r. ⌜ r ≡ afterByte self byte ⌝ }
@@ -154,7 +154,7 @@ impl LowRuns {
     }
 }
 
-// A byte of a decode's data, the first on top.
+// Byte number `index` of a decode's data. The first byte is on top.
 fn byte_of(data: u64, index: u8) -> u8
     requires { ⌜ index ≤ 7 ⌝ }
     ensures { λ r. ⌜ r ≡ byteOf «data» index ⌝ }

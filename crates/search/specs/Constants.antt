@@ -1,12 +1,12 @@
--- The public constants. Assumes nothing.
+-- Document 01, "Search": the public constants. Their values are source document 001's (manchester.rs). Assumes nothing.
 use Rattle.search.specs.declared.PublicConstants.{PublicConstants}
 
 abbrev pub publicConstants : PublicConstants
 publicConstants = record {
-  -- the maximum with which a search reads each phase
+  -- a search reads each phase with this maximum
   «manchester_rx_max_decoded_bits» = 32;
-  -- fewer bits are no decode
+  -- a decode of fewer bits is none
   «manchester_rx_min_decoded_bits» = 3;
-  -- the steps of the scan
+  -- the scan takes four steps
   «phase_scan_count» = 4;
 }

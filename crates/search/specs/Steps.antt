@@ -18,58 +18,59 @@ use Rattle.search.specs.Search.{isPreferred, acceptedOf, searchWith, new
 use Rattle.search.specs.Answers.{bestOf}
 
 -- ---- in one piece
--- phase 0 if its length is preferred, after one step; else what the scan keeps of its four phases, after five
+-- If the length at phase 0 is preferred, the search ends with that decode after one step. If not, it ends with the best of the four phases of the
+-- scan after five.
 unfoldable pub searchOf : BitLengths → SampleWindow → SearchAnswer
 searchOf m w =
     pick (isPreferred m (phaseOf w 32 (pos 0)))
     (record { found = acceptedOf (Decode (phaseOf w 32 (pos 0))); steps = 1 })
     (record { found = acceptedOf (bestOf m w Nothing scanPhases); steps = 5 })
 
--- Running a new search is the search in one piece.
+-- A run of a new search answers what the search in one piece answers.
 abbrev pub RunOfNew : Type 0
 RunOfNew = (m : BitLengths) (w : SampleWindow) → runOf (newOf m) w ≡ searchOf m w
 
--- A run of any search hands out its first step's answer, if that says Done, or else what the run of the search hands out that the step left.
+-- If the first step of a run says Done, the run hands that answer out. If not, the run goes on with the search that the step left.
 abbrev pub RunIsSteps : Type 0
 RunIsSteps = (s : BestPhaseSearch) (w : SampleWindow) → Done (runOf s w) ≡ orLater (stepOf s w .answer) (Done (runOf (stepOf s w .search) w))
 
 -- ---- step by step
--- the search after a step in each of these windows, whatever the steps answered
+-- the search after one step in each of these windows, whatever the steps answered
 unfoldable pub afterSteps : BestPhaseSearch → List SampleWindow → BestPhaseSearch
 afterSteps s [] = s
 afterSteps s (w ∷ ws) = afterSteps (stepOf s w .search) ws
 
--- The first step that a search takes says 1 if it says Done. Any other says 5.
+-- If the first step of a search says Done, it reports 1 step. If a later one says Done, it reports 5.
 abbrev pub StepsAreCounted : Type 0
 StepsAreCounted =
     (m : BitLengths) (ws : List SampleWindow) (w : SampleWindow) (a : SearchAnswer)
     → stepOf (afterSteps (newOf m) ws) w .answer ≡ Done a → a .steps ≡ pick (eqb (length ws) 0) 1 5
 
--- Steps two, three and four say Searching, also after a first step that said Done.
+-- Steps two, three and four say Searching, even if the first step said Done.
 abbrev pub ScanGoesOn : Type 0
 ScanGoesOn =
     (m : BitLengths) (ws : List SampleWindow) (w : SampleWindow) → 1 ≤ length ws → length ws ≤ 3
     → stepOf (afterSteps (newOf m) ws) w .answer ≡ Searching
 
--- From the fifth on every step says Done.
+-- The fifth step and every later one say Done.
 abbrev pub FifthIsDone : Type 0
 FifthIsDone =
     (m : BitLengths) (ws : List SampleWindow) (w : SampleWindow) → 4 ≤ length ws → (a : SearchAnswer) × (stepOf (afterSteps (newOf m) ws) w .answer ≡ Done a)
 
--- Four steps, the fifth in the window v, and any more: a step in any window w then answers what the fifth answered, and leaves the search as
--- the fifth left it.
+-- After the fifth step every step, in whatever window, repeats the fifth step's answer and leaves the search as the fifth left it. (The fifth step
+-- takes the window v. The later ones take `more`, and then w.)
 abbrev pub LaterStepsRepeat : Type 0
 LaterStepsRepeat =
     (m : BitLengths) (four : List SampleWindow) (v : SampleWindow) (more : List SampleWindow) (w : SampleWindow) → length four ≡ 4
     → let fifth = stepOf (afterSteps (newOf m) four) v in
     stepOf (afterSteps (fifth .search) more) w ≡ fifth
 
--- However the first step ended, the scan begins with nothing kept.
+-- The scan begins with no decode kept, whatever the first step answered.
 abbrev pub FirstIsNotKept : Type 0
 FirstIsNotKept = (m : BitLengths) (w : SampleWindow) → stepOf (newOf m) w .search ≡ searchWith m 1 Nothing
 
--- A decode that is handed out has three bits or more, and one of the windows reads it, at phase 0 or at one of the scan. (`List·Memᴰ x xs`: x
--- stands in the list xs.)
+-- A decode that the search hands out has three bits or more. It is what one of the windows reads at phase 0 or at a phase of the scan.
+-- (`List·Memᴰ x xs` says that x is in the list xs.)
 abbrev pub DecodesAreRead : Type 0
 DecodesAreRead =
     (m : BitLengths) (ws : List SampleWindow) (w : SampleWindow) (a : SearchAnswer) (d : PhaseDecode)

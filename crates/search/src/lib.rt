@@ -38,7 +38,7 @@ pub enum Found {
     Nothing,
 }
 
-// What a finished search hands out: what it found and in how many steps.
+// What a finished search hands out: the decode that it found, if any, and the number of steps taken.
 pub struct SearchAnswer {
     pub found: Found,
     pub steps: u8,
@@ -61,7 +61,7 @@ pub struct Stepped {
     pub answer: PhaseSearch,
 }
 
-// Where the scan looks, step by step.
+// The phase that the scan reads at each of its steps.
 fn scan_phase(index: u8) -> i8
     ensures { λ r. ⌜ r ≡ scanPhase index ⌝ }
 {
@@ -124,7 +124,7 @@ impl BestPhaseSearch {
         self.after_scan(candidate)
     }
 
-    // What the first step makes of phase 0. The search keeps nothing of it.
+    // The first step says Done if the length at phase 0 is preferred. The search never keeps that decode.
     fn after_first(self, first: PhaseDecode) -> Stepped
         ensures { λ r. ⌜ r ≡ firstOf self first ⌝ }
     {
@@ -170,7 +170,7 @@ impl BestPhaseSearch {
         search.ended()
     }
 
-    // A search at its end answers, and stays as it is.
+    // After the scan every step gives the same answer and leaves the search as it is.
     fn ended(self) -> Stepped
         ensures { λ r. ⌜ r ≡ endedOf self ⌝ }
     {
@@ -198,7 +198,7 @@ impl BestPhaseSearch {
     }
 }
 
-// What is kept of the best so far and a candidate. An empty candidate doesn't count.
+// The better of the best so far and a candidate. The search never keeps a candidate of length 0.
 fn keep_better(best: Found, candidate: PhaseDecode, preferred: BitLengths) -> Found
     ensures { λ r. ⌜ r ≡ keptBetter best candidate preferred ⌝ }
 {
@@ -214,7 +214,7 @@ fn keep_better(best: Found, candidate: PhaseDecode, preferred: BitLengths) -> Fo
     Found::Decode(current)
 }
 
-// Too short a decode is none.
+// A decode of fewer than three bits is none.
 fn accepted(found: Found) -> Found
     ensures { λ r. ⌜ r ≡ acceptedOf found ⌝ }
 {

@@ -1,4 +1,4 @@
--- One number for a decode or a reading, by which two decoders are compared while they are timed. Assumes nothing.
+-- One number for a decode or a reading, which the clock compares with the Rust's. Assumes nothing.
 use Prim.Native.Nat.{ℕ, _+_, _*_, _/_}
 use Rattle.window.specs.declared.PhaseDecode.{PhaseDecode}
 use Rattle.search.specs.declared.Found.{Found}
@@ -12,15 +12,16 @@ use Rattle.rx_decode.specs.declared.SniffedDecode.{SniffedDecode}
 unfoldable pub digestOf : PhaseDecode → ℕ
 digestOf d = d .«data» / 4294967296 * 4294967296 + (d .«bit_len» * 65536 + d .score)
 
--- of a search's answer: 0 where it found nothing
+-- the number of a decode, or 0 if there is none
 unfoldable pub foundOf : Found → ℕ
 foundOf (Decode d) = digestOf d
 foundOf Nothing = 0
 
+-- the number of the decode that a search found
 abbrev pub answerOf : SearchAnswer → ℕ
 answerOf a = foundOf (a .found)
 
--- of a frame: its kind on top, then its bytes or its length; 0 where the decode failed
+-- the frame kind on top, then its bytes or its length; 0 for DecodeFailed
 unfoldable pub frameDigest : SniffedFrame → ℕ
 frameDigest (Forward16 word) = 0x10000000 + word
 frameDigest (Backward8 byte) = 0x08000000 + byte
@@ -28,5 +29,6 @@ frameDigest (Forward24 first second third) = 0x18000000 + first * 65536 + second
 frameDigest (UnsupportedLength length) = 0x20000000 + length
 frameDigest DecodeFailed = 0
 
+-- the number of the frame on top, then the score
 unfoldable pub sniffedDigest : SniffedDecode → ℕ
 sniffedDigest d = frameDigest (d .frame) * 65536 + d .score

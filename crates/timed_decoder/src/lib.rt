@@ -1,4 +1,4 @@
-// The decoder for a foreign loop that times it (timing/): each call answers one number, so that it can be compared with the Rust's.
+// Calls of the decoder for the clock in timing/. Each answers one number, which the clock compares with the Rust's.
 ghost use mathlib.Core.Path.{_≡_};
 ghost use Rattle.window.specs.Window.{windowOf};
 ghost use Rattle.window.specs.Phase.{phaseOf};
@@ -17,7 +17,7 @@ use window::DALI_RX_SAMPLE_BUF_LEN;
 use window::PhaseDecode;
 use window::SampleWindow;
 
-// The first four data bytes, the length and the score.
+// The first four data bytes on top, then the length, then the score.
 fn digest(decode: PhaseDecode) -> u64
     ensures { λ r. ⌜ r ≡ digestOf decode ⌝ }
 {
@@ -51,7 +51,7 @@ pub extern "C" fn timed_search(samples: &[u8; DALI_RX_SAMPLE_BUF_LEN], sample_co
     digest(decode)
 }
 
-// The kind, then its bytes or its length.
+// The frame kind on top, then its bytes or its length.
 fn frame_digest(frame: SniffedFrame) -> u32
     ensures { λ r. ⌜ r ≡ frameDigest frame ⌝ }
 {
@@ -74,7 +74,7 @@ fn sniffed_digest(decode: SniffedDecode) -> u64
     frame_digest(frame) as u64 * 65_536 + score as u64
 }
 
-// An event can't be handed over, since it holds an enum: it is made of its capture here, and the time for that counts.
+// An event holds an enum, so a foreign caller can't hand one over. This call makes the event from its capture, and the clock counts that time too.
 #[no_mangle]
 pub extern "C" fn timed_sniffed(samples: &[u8; DALI_RX_SAMPLE_BUF_LEN], sample_count: u16) -> u64
     ensures { λ r. ⌜ r ≡ sniffedDigest (sniffedOf (foundIn (eventOf (now (samples .entry)) «sample_count» 0))) ⌝ }

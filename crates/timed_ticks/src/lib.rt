@@ -1,5 +1,5 @@
-// The station for a clock outside (timing/): ticks over the same levels again and again, and one number at the end, so that it can be compared with
-// the Rust's.
+// Calls of the station's tick for the clock in timing/. One call ticks over the same levels again and again and answers one number, which the clock
+// compares with the Rust's.
 ghost use mathlib.Core.Path.{_≡_};
 ghost use Prim.Native.Nat.{_+_, _≤_, _<_};
 ghost use lib.ListN.{getD};
@@ -13,7 +13,7 @@ use halfbits::HalfBitBuffer;
 
 const LEVELS: usize = 4_096;
 
-// As many half-bits as a start takes.
+// The longest frame that a start takes.
 const FRAME: HalfBitBuffer = HalfBitBuffer {
     data: [0xA6, 0x59, 0x96, 0xA9, 0x55, 0x6A, 0x80],
     length: HalfBitBuffer::MAX_DATA_HALF_BITS,
@@ -53,7 +53,7 @@ fn counted(highs: u32, driven_high: bool) -> u32
     highs
 }
 
-// One tick after the other, each on the station that the one before it left.
+// Each tick takes the station that the one before it left.
 fn one_pass(sends: bool, from: DaliBitbangPhy, levels: &[u8; LEVELS]) -> Pass
     ensures { λ r. ⌜ r ≡ passOf sends from (now (levels .entry)) ⌝ }
     ensures { λ r. ⌜ r .highs ≤ 4096 ⌝ }
@@ -114,8 +114,8 @@ pub extern "C" fn timed_ticks(levels: &[u8; LEVELS], passes: u32, sends: bool) -
     sum
 }
 
-// The level that a new station drives after one tick, by the form that firmware calls. It holds `in_place::tick` in the library, where timing/native
-// finds it for a clock that calls it one tick at a time.
+// The level that a new station drives after one tick, by the form that firmware calls. The library contains `in_place::tick` only because of this
+// call. timing/native finds it there for the clock, which calls it one tick at a time.
 #[no_mangle]
 pub extern "C" fn first_level(bus_is_high: bool) -> bool
     ensures { λ r. ⌜ r ≡ ticked newStation «bus_is_high» .«driven_high» ⌝ }

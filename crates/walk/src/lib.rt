@@ -1,1 +1,1 @@
-// Steps of a proof by hand, for functions that change what they are lent. There is no code here.
+// Proof steps for functions that change what they are lent, whose proofs are written by hand. This crate has no code.

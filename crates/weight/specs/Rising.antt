@@ -6,10 +6,10 @@ use lib.Signed.{ltZ}
 use Rattle.laws.specs.Bit.{bit}
 use Rattle.weight.specs.Weight.{halfWeight, weightOf}
 
--- A bit rises where its second half weighs more than its first. It falls where it weighs less, and is flat where both weigh the same.
+-- A bit rises if its second half weighs more than its first. It falls if the second half weighs less, and is flat if both weigh the same.
 abbrev pub rises : ℕ → Bool
 rises byte = ltZ (halfWeight (byte / 16)) (halfWeight (byte % 16))
 
--- Of every byte: a rising bit weighs odd, a falling or a flat one even.
+-- Every rising bit weighs odd. Every falling or flat bit weighs even.
 abbrev pub RisingIsOdd : Type 0
 RisingIsOdd = (byte : ℕ) → byte < 256 → weightOf byte % 2 ≡ bit (rises byte)

@@ -4,7 +4,7 @@ ghost use Prim.Native.Nat.{_<_};
 ghost use lib.Signed.{mag};
 ghost use Rattle.weight.specs.Weight.{bitWeight, halfWeight, weightOf};
 
-// The weight with its sign: plus for a set bit, minus for a clear one. Bit 0 is the last tick.
+// A set bit counts plus its weight, a clear one minus its weight. Bit 0 is the last tick.
 fn bit_weight(sample: u8, bit: u8, weight: i16) -> i16
     requires { ⌜ (bit < 8) × (mag weight < 32767) ⌝ }
     ensures { λ r. ⌜ r ≡ bitWeight sample bit weight ⌝ }
@@ -14,7 +14,7 @@ fn bit_weight(sample: u8, bit: u8, weight: i16) -> i16
     sign * weight
 }
 
-// Four ticks of a sample.
+// The two ticks in the middle of a half weigh double.
 fn half_weight(half: u8) -> i16
     requires { ⌜ half < 16 ⌝ }
     ensures { λ r. ⌜ r ≡ halfWeight half ⌝ }
@@ -25,7 +25,7 @@ fn half_weight(half: u8) -> i16
         + bit_weight(half, 0, 1)
 }
 
-// How much eight ticks look like a bit, and like which: a rising bit weighs odd, a falling one even.
+// The more the two halves differ, the larger the weight. A rising bit weighs odd, a falling or flat one even.
 pub fn sample_weight(sample: u8) -> u8
     ensures { λ r. ⌜ r ≡ weightOf sample ⌝ }
 {

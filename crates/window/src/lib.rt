@@ -1,4 +1,4 @@
-// The window over a capture's samples and what one phase reads in it, from source document 001 (manchester.rs).
+// The window over a capture's samples, and what one phase reads in it. From source document 001 (manchester.rs).
 ghost use mathlib.Core.Path.{_≡_};
 ghost use Prim.Native.Nat.{min, max, _+_, _-_, _^_, _≤_, _<_};
 ghost use lib.Dec.{ltb};
@@ -9,7 +9,7 @@ ghost use Rattle.window.specs.Phase.{held, decodeOf, phaseOf, bitsOf, st
 ghost use Rattle.window.specs.Constants.{publicConstants};
 ghost use Rattle.window.specs.Code.{byteAt, tenTicks, peeksOf, stopOf, aroundOf, summaryOf, storedOf, pushedOf, placedOf};
 
-// From source document 000 (fsm.rs), which stands above this crate.
+// Source document 000 (fsm.rs) has this constant. It is here since the window needs it.
 pub const DALI_RX_SAMPLE_BUF_LEN: usize = 64;
 
 pub const DECODED_BYTES: usize = 8;
@@ -43,7 +43,7 @@ const STORED_BITS: u8 = (DECODED_BYTES * 8) as u8;
 // The sample bits of a full window.
 const MOST_SAMPLE_BITS: u16 = DALI_RX_SAMPLE_BUF_LEN as u16 * WINDOW_BITS_PER_SAMPLE;
 
-// A phase lies at most this many ticks before the start. Positions in the code are counted from there, so that they are never negative.
+// No peek begins more than 128 ticks before the start. The code counts positions from there, so that none is negative.
 const EARLIEST: u16 = 128;
 
 enum PeekStop {
@@ -52,7 +52,7 @@ enum PeekStop {
     Held,
 }
 
-// The peeks by which a bit is weighed: where it is expected, a tick earlier and a tick later.
+// The three peeks of a bit: at its position, a tick earlier and a tick later.
 struct BitPeeks {
     centre: u8,
     early: u8,
@@ -65,7 +65,7 @@ struct PeekAround {
     stop: PeekStop,
 }
 
-// What one phase has read: the bits with the start bit, their score, and the stored bits as one number.
+// What a phase has read: how many bits, the start bit among them, their score, and the stored bits as one number.
 struct Reading {
     bit_len: u8,
     score: u16,
@@ -111,7 +111,7 @@ impl SampleWindow {
         bits: 0,
     };
 
-    // Nobody calls this: its promise is what the constant means.
+    // Nobody calls this: its promise says what the constant is.
     fn empty() -> SampleWindow
         ensures { λ r. ⌜ r ≡ emptyWindow ⌝ }
     {
@@ -135,9 +135,9 @@ impl SampleWindow {
         window
     }
 
-    // The peeks are lent the window's parts, since a window by value would be copied at each call.
+    // The functions that peek borrow the window's fields, since each call would copy a window by value.
 
-    // The byte at a place, or what is asked for in its stead past the pad.
+    // Byte number `pos` of the window, or `past` if it lies past the pad.
     fn byte(bytes: &[u8; WINDOW_LEN], len: u16, pos: u16, past: u8) -> u8
         ensures { λ r. ⌜ r ≡ byteAt (now (bytes .entry)) len pos past ⌝ }
     {
@@ -180,7 +180,7 @@ impl SampleWindow {
         sample
     }
 
-    // Eight ticks, the first on top.
+    // Eight ticks from a position on, the first on top.
     fn peek8(bytes: &[u8; WINDOW_LEN], len: u16, bits: u16, at: u16) -> u8
         requires { ⌜ at ≤ 1000 ⌝ }
         ensures { λ r. ⌜ r ≡ peekAt (windowWith (now (bytes .entry)) len bits) (subℕ at 128) ⌝ }
@@ -198,7 +198,7 @@ impl SampleWindow {
         (((first * 256 + next) >> (8 - shifted % 8)) % 256) as u8
     }
 
-    // Ten ticks, the first on top.
+    // Ten ticks from a position on, the first on top.
     fn ten_ticks(bytes: &[u8; WINDOW_LEN], len: u16, bitpos: u16) -> u16
         requires { ⌜ bitpos ≤ 1000 ⌝ }
         ensures { λ r. ⌜ r ≡ tenTicks (now (bytes .entry)) len bitpos ⌝ }
@@ -211,7 +211,7 @@ impl SampleWindow {
         ((ticks >> (14 - bitpos % 8)) % 1024) as u16
     }
 
-    // Where all three peeks begin within the capture or its pad, they are parts of the same ten ticks, which are read at once.
+    // If all three peeks begin within the capture or its pad, they lie within the same ten ticks, and one read of these is enough.
     fn peeks_around(bytes: &[u8; WINDOW_LEN], len: u16, bits: u16, at: u16) -> BitPeeks
         requires { ⌜ (1 ≤ at) × (at ≤ 900) ⌝ }
         ensures { λ r. ⌜ r ≡ peeksOf (windowWith (now (bytes .entry)) len bits) at ⌝ }
@@ -233,7 +233,7 @@ impl SampleWindow {
         }
     }
 
-    // A bit's weight and how far on the next one lies. Whether the phase stops here is told by the late peek, and by no other.
+    // A bit's weight, the stride to the next bit, and the stop. The stop depends on the late peek and on no other.
     fn weighted_peek_around(
         bytes: &[u8; WINDOW_LEN],
         len: u16,
@@ -309,7 +309,7 @@ impl SampleWindow {
     }
 }
 
-// The samples that there are of a capture: as many as it counts, 64 if it counts more.
+// A capture has as many samples as it counts, but never more than 64.
 pub fn samples_kept(sample_count: u16) -> usize
     ensures { λ r. ⌜ r ≡ min «sample_count» 64 ⌝ }
 {
@@ -321,7 +321,7 @@ pub fn samples_kept(sample_count: u16) -> usize
     }
 }
 
-// The sample bits of a window. None that can be made has more than a full one.
+// No window that can be made has more sample bits than a full one, so this cuts none off.
 fn sample_bits(bits: u16) -> u16
     ensures { λ r. ⌜ r ≡ min bits 512 ⌝ }
 {
@@ -332,7 +332,7 @@ fn sample_bits(bits: u16) -> u16
     }
 }
 
-// The phase as a count of ticks from the earliest.
+// The phase with `EARLIEST` added, so that it is never negative.
 fn from_earliest(phase_ticks: i8) -> u16
     ensures { λ r. ⌜ subℕ r 128 ≡ «phase_ticks» ⌝ }
     ensures { λ r. ⌜ r ≤ 255 ⌝ }
@@ -346,7 +346,7 @@ fn larger(a: u8, b: u8) -> u8
     if a < b { b } else { a }
 }
 
-// How far on the next bit lies. Of equal weights the centre's counts first, then the early one's.
+// The stride to the next bit. On a tie the centre wins over the early peek, and both win over the late one.
 fn stride(centre: u8, early: u8, late: u8) -> u16
     ensures { λ r. ⌜ r ≡ strideOf centre early late ⌝ }
 {
@@ -366,7 +366,7 @@ fn stop_of(sample: u8) -> PeekStop
     }
 }
 
-// The stored bits with one more. The start bit isn't stored, nor is what there is no room for.
+// The stored bits with one more. Neither the start bit nor a data bit past the 64th is stored.
 fn push_decoded_bit(bits: u64, bit_len: u8, weightmax: u8) -> u64
     requires { ⌜ bits < 2 ^ storedOf «bit_len» ⌝ }
     ensures { λ r. ⌜ r ≡ pushedOf bits «bit_len» weightmax ⌝ }
@@ -380,7 +380,7 @@ fn push_decoded_bit(bits: u64, bit_len: u8, weightmax: u8) -> u64
     bits * 2 + (weightmax % 2) as u64
 }
 
-// The length that is told: without the start bit, unless it stands alone.
+// The length that the phase reports. It leaves the start bit out, unless that is the only bit.
 fn reported(bit_len: u8) -> u8
     ensures { λ r. ⌜ r ≡ pick (ltb 1 «bit_len») («bit_len» - 1) «bit_len» ⌝ }
 {
@@ -400,7 +400,7 @@ fn stored(bit_len: u8) -> u8
     }
 }
 
-// n stored bits by bytes, the first byte on top. The last byte may have fewer than eight, in its low bits.
+// The n stored bits, eight to a byte, the first byte on top. If the last byte is part-filled, its bits are the low ones.
 fn placed(bits: u64, n: u8) -> u64
     requires { ⌜ (bits < 2 ^ n) × (n ≤ 64) ⌝ }
     ensures { λ r. ⌜ r ≡ placedOf bits n ⌝ }
