@@ -16,6 +16,7 @@ use Rattle.bench_reading.specs.declared.Reading.{Reading}
 use Rattle.bench_answers.specs.declared.Counts.{Counts}
 
 -- ---- kind and data
+-- the word for each kind
 unfoldable pub kindText : SniffedFrame → List ℕ
 kindText (Backward8 byte) = word "B8"
 kindText (Forward16 value) = word "F16"
@@ -23,7 +24,8 @@ kindText (Forward24 first second third) = word "F24"
 kindText (UnsupportedLength bits) = word "LEN"
 kindText DecodeFailed = word "FAIL"
 
--- a frame's bytes in hex, the first first; another length in decimal; a minus where nothing was read
+-- The data of a frame are its bytes in hex, the first byte first. The data of another length are the length in decimal, and of a failed reading a
+-- minus.
 unfoldable pub dataText : SniffedFrame → List ℕ
 dataText (Backward8 byte) = hexesOf (byte ∷ [])
 dataText (Forward16 value) = hexesOf (value / 256 ∷ value % 256 ∷ [])
@@ -32,10 +34,11 @@ dataText (UnsupportedLength bits) = decimalOf bits
 dataText DecodeFailed = word "-"
 
 -- ---- the three answer lines
--- a tab stands between fields, and LF ends the line
+-- A line has a tab between each two fields and ends with LF.
 abbrev pub lineText : List (List ℕ) → List ℕ
 lineText fields = joinedBy tab fields ++ (lf ∷ [])
 
+-- A tick is 104 microseconds.
 abbrev pub microseconds : ℕ → ℕ
 microseconds ticks = ticks * tickUs
 
@@ -61,7 +64,7 @@ unfoldable pub endText : Counts → List ℕ
 endText counts = lineText (word "END" ∷ decimalOf (counts .lines) ∷ decimalOf (counts .decoded) ∷ decimalOf (counts .refused) ∷ [])
 
 -- ---- the limits
--- No row, no BAD line and no END line is longer: their words, tabs and LF, and ten digits for each number of 32 bits.
+-- No row, BAD line or END line has more bytes, even if each number of 32 bits has ten digits.
 abbrev pub rowMax : ℕ
 rowMax = 45
 

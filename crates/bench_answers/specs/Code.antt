@@ -9,7 +9,8 @@ use Rattle.text.specs.Decimals.{decimalOf}
 use Rattle.rx_decode.specs.declared.SniffedFrame.{SniffedFrame}
 use Rattle.bench_answers.specs.Answer.{kindText, dataText}
 
--- Where a text has room at a place, it was stored in `before` from there on and nothing else was, which left `after`; `next` is the place past it.
+-- If a text has room at a place of the buffer `before`, it was written there and nothing else changed, which left `after`. `next` is then the place
+-- past the text.
 pub record Wrote (text : List ℕ) (place : ℕ) (before after : List ℕ) (next : ℕ) : Type 0 where
   pub whole : place + length text ≤ length before → (next ≡ place + length text) × (after ≡ sets before place text)
 
@@ -17,6 +18,6 @@ pub record Wrote (text : List ℕ) (place : ℕ) (before after : List ℕ) (next
 unfoldable pub fieldText : ℕ → ℕ → List ℕ
 fieldText number mark = decimalOf number ++ (mark ∷ [])
 
--- kind and data, and the tab between them
+-- kind and data, with a tab between them
 unfoldable pub frameText : SniffedFrame → List ℕ
 frameText frame = kindText frame ++ (tab ∷ dataText frame)

@@ -1,4 +1,4 @@
--- A longest row, BAD line and END line: the limits are no larger than they must be. Assumes nothing.
+-- Document 01, "The bench reader": a longest row, BAD line and END line, which show that no limit is larger than it must be. Assumes nothing.
 use Prim.Native.Nat.{ℕ, _-_, _^_}
 use mathlib.Core.List.{[]}
 use mathlib.Core.Path.{_≡_}
@@ -11,13 +11,14 @@ use Rattle.bench_reading.specs.declared.Reading.{Reading}
 use Rattle.bench_answers.specs.declared.Counts.{Counts}
 use Rattle.bench_answers.specs.Answer.{rowText, badText, endText, rowMax, badMax, endMax}
 
+-- the largest numbers of 32 and of 16 bits
 abbrev pub most32 : ℕ
 most32 = 2 ^ 32 - 1
 
 abbrev pub most16 : ℕ
 most16 = 2 ^ 16 - 1
 
--- 24 bits have the longest kind and data, and -128 has the longest phase
+-- A frame of 24 bits has the longest kind and data, and -128 is the longest phase.
 abbrev pub longReading : Reading
 longReading =
     record {
@@ -26,12 +27,15 @@ longReading =
       steps = 0;
     }
 
+-- The longest silence is 255 ticks.
 abbrev pub longCapture : Capture
 longCapture = record { silence = 255; count = 0; samples = [] }
 
+-- the largest counts that an END line can tell
 abbrev pub longCounts : Counts
 longCounts = record { lines = most32; decoded = most32; refused = most32 }
 
+-- Each limit is the length of such a line.
 abbrev pub LimitsReached : Type 0
 LimitsReached =
     (length (rowText most32 longCapture longReading) ≡ rowMax)

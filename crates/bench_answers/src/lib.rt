@@ -1,5 +1,5 @@
-// An answer line of the bench reader (document 01, "The bench reader"), written into a lent buffer from a place on. Each function answers the place
-// past what it wrote, and writes nothing where there is not room for every line of its kind.
+// Writes the answer lines of document 01, "The bench reader", into a lent buffer from a place on. Each function answers the place past its line. If
+// there is no room for the longest line of its kind, it writes nothing.
 ghost use mathlib.Core.Path.{_≡_};
 ghost use Prim.Native.Nat.{_+_, _≤_};
 ghost use Rattle.text.specs.Writing.{placeAfter, bufferAfter};
@@ -17,7 +17,7 @@ use text::hex;
 use text::signed;
 use text::writing;
 
-// The longest row, BAD line and END line, with ten digits for every number of 32 bits.
+// The bytes of the longest row, BAD line and END line. A number of 32 bits may have ten digits.
 pub const ROW_MAX: usize = 45;
 
 pub const BAD_MAX: usize = 17;
@@ -41,14 +41,14 @@ struct PublicConstants {
     end_max: usize,
 }
 
-// What an END line tells: how many lines there were, how many of them decoded, and how many refused.
+// What the END line tells: how many lines there were, how many of them were decoded, and how many refused.
 pub struct Counts {
     pub lines: u32,
     pub decoded: u32,
     pub refused: u32,
 }
 
-// The answer to a good line.
+// Writes the answer to a good line.
 pub fn put_row(out: &mut [u8], at: usize, number: u32, capture: Capture, reading: Reading) -> usize
     ensures { λ r. ⌜ r ≡ placeAfter rowMax (rowText number capture reading) at (now (out .entry)) ⌝ }
     ensures { λ r. ⌜ now (out .exit) ≡ bufferAfter rowMax (rowText number capture reading) at (now (out .entry)) ⌝ }
@@ -69,7 +69,7 @@ pub fn put_row(out: &mut [u8], at: usize, number: u32, capture: Capture, reading
     put_field(out, at, capture.silence as u32 * PHY_TICK_US, b'\n')
 }
 
-// The answer to a refused line.
+// Writes the answer to a refused line.
 pub fn put_bad(out: &mut [u8], at: usize, number: u32, refusal: Refusal) -> usize
     ensures { λ r. ⌜ r ≡ placeAfter badMax (badText number refusal) at (now (out .entry)) ⌝ }
     ensures { λ r. ⌜ now (out .exit) ≡ bufferAfter badMax (badText number refusal) at (now (out .entry)) ⌝ }
@@ -83,7 +83,7 @@ pub fn put_bad(out: &mut [u8], at: usize, number: u32, refusal: Refusal) -> usiz
     put_field(out, at, refusal_number(refusal), b'\n')
 }
 
-// The last line.
+// Writes the last line.
 pub fn put_end(out: &mut [u8], at: usize, counts: Counts) -> usize
     ensures { λ r. ⌜ r ≡ placeAfter endMax (endText counts) at (now (out .entry)) ⌝ }
     ensures { λ r. ⌜ now (out .exit) ≡ bufferAfter endMax (endText counts) at (now (out .entry)) ⌝ }
@@ -98,7 +98,7 @@ pub fn put_end(out: &mut [u8], at: usize, counts: Counts) -> usize
     put_field(out, at, counts.refused, b'\n')
 }
 
-// A number and the mark behind it.
+// Writes a number and the mark behind it.
 fn put_field(out: &mut [u8], at: usize, number: u32, mark: u8) -> usize
     ensures { λ r. ⌜ Wrote (fieldText number mark) at (now (out .entry)) (now (out .exit)) r ⌝ }
 {
@@ -106,7 +106,7 @@ fn put_field(out: &mut [u8], at: usize, number: u32, mark: u8) -> usize
     writing::put_byte(out, at, mark)
 }
 
-// Kind and data, and the tab between them.
+// Writes kind and data, with a tab between them.
 fn put_frame(out: &mut [u8], at: usize, frame: SniffedFrame) -> usize
     ensures { λ r. ⌜ Wrote (frameText frame) at (now (out .entry)) (now (out .exit)) r ⌝ }
 {

@@ -1,5 +1,4 @@
--- The calls of a bench line: each is the call of the station with that number, and its answer, or refusal 9 with the line untouched.
--- Assumes nothing.
+-- Document 01, "Bench line": the calls that name a station by its number. Assumes nothing.
 use Prim.Native.Nat.{ℕ}
 use Rattle.laws.specs.Pick.{pick}
 use Rattle.event.specs.Event.{newEvent}
@@ -25,12 +24,14 @@ use Rattle.bench_line.specs.declared.SeenStation.{SeenStation}
 use Rattle.bench_line.specs.Line.{isOn, stationAt, withStation, newLine}
 use Rattle.bench_line.specs.Refusals.{isCount}
 
--- A line, or refusal 10 and none: a line without stations stands for that.
+-- A count of 1 to 4 makes a new line. Any other count is refused by 10. Then no line is made, and one without stations is handed out in its place.
 unfoldable pub madeLine : ℕ → MadeLine
 madeLine count =
     pick (isCount count) (record { line = newLine count; answer = made.Made }) (record { line = newLine 0; answer = made.BadCount })
 
--- ---- what a call of the station answered, and the line that it left
+-- ---- what a call of a station makes of its line
+-- If the line has a station of that number, the station that the call handed back takes its place, and the line hands on its answer. If not, the call
+-- is refused by 9 and the line stays as it was.
 unfoldable pub changedAt : BenchLine → ℕ → DaliBitbangPhy → LineChanged
 changedAt l number s =
     pick (isOn l number)
@@ -55,13 +56,14 @@ tookIdleAt l number r =
     (record { line = withStation l number (r .station); answer = told.Told (r .idle) })
     (record { line = l; answer = told.NoStation })
 
+-- The same with the event that the station handed out; a refused call hands out a new one.
 unfoldable pub tookRxAt : BenchLine → ℕ → TookRx → LineTookRx
 tookRxAt l number r =
     pick (isOn l number)
     (record { line = withStation l number (r .station); answer = told.Told (r .completed); event = r .event })
     (record { line = l; answer = told.NoStation; event = newEvent })
 
--- The station itself, which tells what its own calls tell.
+-- A copy of the station, for the calls that change nothing. If the line has no station of that number, the copy is a new one, beside refusal 9.
 unfoldable pub seenAt : BenchLine → ℕ → SeenStation
 seenAt l number =
     pick (isOn l number)

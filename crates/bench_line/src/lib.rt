@@ -1,4 +1,4 @@
-// The bench line: one to four stations on one wire, numbered from 0. Every station samples the level that the tick before left.
+// The bench line: one to four stations on one line, numbered from 0. On each tick all stations sample the level that the tick before left.
 ghost use mathlib.Core.Path.{_≡_};
 ghost use Prim.Native.Nat.{_≤_};
 ghost use lib.ListN.{getD, set};
@@ -45,8 +45,8 @@ pub struct BenchLine {
     level: bool,
 }
 
-// What a call by number answers where there is no station with that number is `NoStation`, refusal 9; otherwise it is the station's own
-// answer, and `Done` where that has none.
+// Most calls name a station by its number. If the line has no station of that number, the call answers `NoStation`, refusal 9. Otherwise it hands on
+// the station's own answer, or `Done` if the station gives none.
 
 pub enum LineDone {
     Done = 0,
@@ -68,7 +68,7 @@ pub enum LineTold {
     NoStation,
 }
 
-// Refusal 10: no line has that count.
+// Refusal 10: the count is outside 1 to 4.
 pub enum LineNew {
     Made = 0,
     BadCount = 10,
@@ -94,9 +94,9 @@ fn line_new_number(answer: LineNew) -> u8
     }
 }
 
-// Calls that change a line give it back beside their answer.
+// A call that changes a line hands the line back beside its answer.
 
-// Where no line was made, this one has no stations, so that every call of one is refused.
+// After a refused count the line has no station, so it refuses every call that names one.
 pub struct MadeLine {
     pub line: BenchLine,
     pub answer: LineNew,
@@ -122,20 +122,20 @@ pub struct LineTookIdle {
     pub answer: LineTold,
 }
 
-// Where none was completed or there is no station, the event is a new one.
+// If the station had no capture to take, or the line has no such station, the event is a new one.
 pub struct LineTookRx {
     pub line: BenchLine,
     pub answer: LineTold,
     pub event: RxCompletedEvent,
 }
 
-// A copy of a station, for the calls that only tell of it. Where there is none, it is a new one.
+// A copy of a station, for the calls that change nothing. If the line has no such station, it is a new one.
 pub struct SeenStation {
     pub station: DaliBitbangPhy,
     pub answer: LineDone,
 }
 
-// The stations below count tick on one level.
+// The first `count` stations sample the same level.
 fn tick_all(
     stations: [DaliBitbangPhy; MAX_STATIONS],
     count: usize,
@@ -156,7 +156,7 @@ fn tick_all(
     all
 }
 
-// Low if one of the stations below count drives low.
+// One of the first `count` stations that drives low is enough to leave the line low.
 fn level_left(stations: [DaliBitbangPhy; MAX_STATIONS], count: usize) -> bool
     requires { ⌜ count ≤ 4 ⌝ }
     ensures { λ r. ⌜ r ≡ levelLeft count stations ⌝ }
@@ -182,7 +182,7 @@ fn is_count(count: u8) -> bool
     (count as usize) <= MAX_STATIONS
 }
 
-// Past the last place there is a new station, and none is put there.
+// Past the four places `place` reads a new station, and `placed` changes nothing.
 
 fn place(stations: [DaliBitbangPhy; MAX_STATIONS], number: usize) -> DaliBitbangPhy
     ensures { λ r. ⌜ r ≡ getD stations number newStation ⌝ }
@@ -236,7 +236,7 @@ impl BenchLine {
         }
     }
 
-    // How many of the places are stations of the line.
+    // The count, but never more than the four places.
     fn stations_on(self) -> usize
         ensures { λ r. ⌜ r ≡ stationsOn self ⌝ }
     {
@@ -271,7 +271,7 @@ impl BenchLine {
         }
     }
 
-    // The level that the last tick left.
+    // The level that the last tick left. It is high before the first tick.
     pub fn level(self) -> bool
         ensures { λ r. ⌜ r ≡ self .level ⌝ }
     {
@@ -364,7 +364,7 @@ impl BenchLine {
         self.take_rx(number, station.take_completed_rx_event())
     }
 
-    // The line with what a call left of its station.
+    // Puts the station that a call handed back in its place. If the number names no station of the line, nothing changes.
     fn change(self, number: u8, station: DaliBitbangPhy) -> LineChanged
         ensures { λ r. ⌜ r ≡ changedAt self number station ⌝ }
     {
@@ -380,7 +380,7 @@ impl BenchLine {
         }
     }
 
-    // The same with what it answered.
+    // The same, and hands on the station's answer.
 
     fn start(self, number: u8, started: Started) -> LineStarted
         ensures { λ r. ⌜ r ≡ startedAt self number started ⌝ }

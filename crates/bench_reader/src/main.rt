@@ -1,6 +1,6 @@
-// The bench reader: a book of captures on standard input, an answer a line on standard output. What is written is made by `book`; here bytes
-// are only moved. What the program promises is said in specs/Run.antt: each read is fed whole and once, in order; what is said of it is
-// written; the end of the input is answered by the reader that all of it led to; and what could not be done is said on standard error.
+// The bench reader: it reads a book from standard input and writes one answer for each line to standard output. `book` makes the answers; here bytes
+// are only moved. The program promises (specs/Run.antt) that it feeds what each read brings, whole, once and in order; that it writes what the reader
+// says of it; that the reader of the whole input answers the end of the input; and that it says on standard error what it could not do.
 ghost use mathlib.Core.Path.{_≡_};
 ghost use Prim.Native.Nat.{_+_, _<_};
 ghost use lib.ListN.{length};
@@ -15,12 +15,12 @@ use book::BookReader;
 use book::Said;
 use stdio::Report;
 
-// What one read may bring.
+// The bytes that one read can bring.
 type Chunk = [u8; CHUNK_MAX];
 
 const CHUNK_MAX: usize = 16_384;
 
-// Room for all that such a chunk can make the reader say.
+// Room for all that the reader can say of one chunk.
 type Answers = [u8; ANSWERS_ROOM];
 
 const ANSWERS_ROOM: usize = CHUNK_MAX * ROW_MAX;
@@ -40,7 +40,7 @@ struct Limits {
     answers_room: usize,
 }
 
-// How a run goes on: it reads again; a byte came after the last line that a book may have; the input has ended; or a read or a write failed.
+// How a run goes on: it reads again; a byte came after the last line that is read; the input has ended; or a read or a write failed.
 enum Next {
     More,
     Over,
@@ -48,7 +48,7 @@ enum Next {
     Failed,
 }
 
-// What a run has come to: how many reads were made, the reader that they led to, and how it goes on.
+// A run so far: the number of its reads, the reader after them, and how it goes on.
 struct Run {
     reads: u64,
     reader: BookReader,
@@ -89,7 +89,7 @@ fn answer_book(chunk: &mut Chunk, out: &mut Answers)
     }
 }
 
-// Nothing says that the input ends, so the reads are counted up to a number that no run comes to.
+// A loop must end, but an input need not. So the reads are counted, up to a number that no run reaches.
 fn read_all(chunk: &mut Chunk, out: &mut Answers) -> Run
     ensures { λ r. ⌜ Ran (r .reads) (r .reader) (r .next) ⌝ }
     ensures { λ r. ⌜ Stops (r .reads) (r .next) ⌝ }
@@ -150,7 +150,7 @@ fn turn(reads: u64, reader: BookReader, chunk: &mut Chunk, out: &mut Answers) ->
     }
 }
 
-// Feeds what came to the reader, and writes what that says.
+// Feeds the reader what came, and writes what it says.
 fn take_in(reads: u64, reader: BookReader, chunk: &Chunk, count: usize, out: &mut Answers) -> Run
     requires { ⌜ reads < readsMax ⌝ }
     requires { ⌜ Ran reads reader More ⌝ }
@@ -194,7 +194,7 @@ fn say_not_written()
     stdio::complain(b"error: standard output can't be written\n");
 }
 
-// Answers the end of the input. All that the run said before is written by then.
+// Writes the reader's last words, and complains if that fails.
 fn finish(run: Run, out: &mut Answers) -> bool
     requires { ⌜ Ran (run .reads) (run .reader) (run .next) ⌝ }
     ensures { λ r. ⌜ Finished (run .reader) r ⌝ }

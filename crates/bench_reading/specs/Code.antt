@@ -5,7 +5,7 @@ use Rattle.event.specs.declared.RxCompletedEvent.{RxCompletedEvent}
 use Rattle.bench_text.specs.declared.Capture.{Capture}
 use Rattle.bench_reading.specs.Reading.{eventFor}
 
--- the event of a capture, but that it holds what a finished search found
+-- the event of a capture, which holds what a finished search found
 unfoldable pub heldEvent : Capture → Found → RxCompletedEvent
 heldEvent capture found =
     let event = eventFor capture in

@@ -1,4 +1,4 @@
--- Document 01, "The bench reader": what is read of a capture of the book. Assumes nothing.
+-- Document 01, "The bench reader": what the bench reads of a capture. Assumes nothing.
 use mathlib.Core.Bool.{Bool, true, false}
 use Rattle.lengths.specs.Lengths.{sniffedLengths}
 use Rattle.window.specs.Window.{windowOf}
@@ -12,15 +12,15 @@ use Rattle.rx_decode.specs.Reading.{foundIn, sniffedOf, lowRunOf}
 use Rattle.bench_text.specs.declared.Capture.{Capture}
 use Rattle.bench_reading.specs.declared.Reading.{Reading}
 
--- the event of the capture: samples, their count and the silence before them
+-- the event of a capture: its samples, its count and the silence before it
 unfoldable pub eventFor : Capture → RxCompletedEvent
 eventFor capture = eventOf (capture .samples) (capture .count) (capture .silence)
 
--- the search for 8, 16 and 24 bits
+-- the search of a capture, with the lengths 8, 16 and 24 preferred
 unfoldable pub searchOf : Capture → SearchAnswer
 searchOf capture = runOf (newOf sniffedLengths) (windowOf (capture .samples) (capture .count))
 
--- what decode_sniffed_with_phase gives of the event, its longest low run in ticks, and the steps that its search takes
+-- the sniffed reading of the capture, its longest low run in ticks, and the steps of its search
 unfoldable pub readingOf : Capture → Reading
 readingOf capture =
     record {
@@ -29,7 +29,7 @@ readingOf capture =
       steps = searchOf capture .steps;
     }
 
--- decoded are B8, F16 and F24; another length and a failed reading are not
+-- Frames of 8, 16 and 24 bits are decoded. Another length and a failed reading are not.
 unfoldable pub isFrame : SniffedFrame → Bool
 isFrame (Backward8 byte) = true
 isFrame (Forward16 word) = true

@@ -1,4 +1,4 @@
-// What the bench reads of a capture: its decode, its longest low run and the steps of its search, made once and passed on as one value.
+// Reads a capture of the book once: its decode, its longest low run, and the steps of its search.
 ghost use mathlib.Core.Path.{_≡_};
 ghost use Rattle.bench_reading.specs.Reading.{readingOf, isDecoded};
 ghost use Rattle.bench_reading.specs.Code.{heldEvent};
@@ -18,7 +18,7 @@ pub struct Reading {
     pub steps: u8,
 }
 
-// The search is made here, for its steps, and the event is handed what it found: no reading searches again.
+// The search runs here, since the reading tells its steps. The event is given what the search found, so the sniffed reading does not search again.
 pub fn read_capture(capture: Capture) -> Reading
     ensures { λ r. ⌜ r ≡ readingOf capture ⌝ }
 {
@@ -35,7 +35,7 @@ pub fn read_capture(capture: Capture) -> Reading
     }
 }
 
-// The event of a capture, with a search that is finished. A field that is an enum can't be set, so the event is written anew.
+// The event of a capture, which holds what a finished search found. A field that is an enum can't be set, so the event is written anew.
 fn event_with(capture: Capture, found: Found) -> RxCompletedEvent
     ensures { λ r. ⌜ r ≡ heldEvent capture found ⌝ }
 {
@@ -56,7 +56,7 @@ fn event_with(capture: Capture, found: Found) -> RxCompletedEvent
     }
 }
 
-// Decoded are frames of 8, 16 and 24 bits. Another length is none of them.
+// Only frames of 8, 16 and 24 bits are decoded.
 pub fn is_decoded(reading: Reading) -> bool
     ensures { λ r. ⌜ r ≡ isDecoded reading ⌝ }
 {

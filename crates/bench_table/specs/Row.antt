@@ -1,5 +1,5 @@
--- The kinds of rows that document 01's "Bench table" has, and what a row of each kind says. Every kind speaks of definitions that public
--- promises cite, and so of what the proved calls return. Assumes nothing.
+-- Document 01, "Bench table": the kinds of rows, and what a row of each kind says. Each kind speaks of definitions that public promises cite, and so
+-- of what the proved calls return. Assumes nothing.
 use Prim.Native.Nat.{ℕ, _+_}
 use mathlib.Core.Bool.{Bool, true, false}
 use mathlib.Core.List.{List, _++_}
@@ -28,41 +28,43 @@ use Rattle.line_theorems.specs.OnLine.{Sender, Breaks}
 use Rattle.line_theorems.specs.TwoSenders.{bothOn}
 
 -- ---- what rows speak of
--- A new station that has sampled these levels, and as many high ones behind them.
+-- a new station after it has sampled these levels and then that many high ones
 abbrev pub hearing : List Bool → ℕ → DaliBitbangPhy
 hearing levels highs = afterLevels (length levels + highs) (λ tick. getD levels tick high) newStation
 
--- The event of a capture of these bytes, with anything behind them in the store.
+-- the event of a capture of these bytes, with any other bytes past its count
 abbrev pub eventWith : List ℕ → List ℕ → RxCompletedEvent
 eventWith bytes behind = eventOf (bytes ++ behind) (length bytes) 0
 
 -- ---- the kinds of rows
+-- a row of the table
 pub data Row : Type 0 where
-  -- a sample, and what it weighs
+  -- a sample byte and its weight
   weighs : (sample weight : ℕ) → Row
-  -- a set of these lengths, and one that is in it
+  -- a set of these lengths, and a length that it holds
   lengths-hold : (lengths : List ℕ) (one : ℕ) → Row
-  -- a set of these lengths, which has none
+  -- a set of these lengths, which holds no length at all
   lengths-hold-nothing : (lengths : List ℕ) → Row
-  -- a byte, and the store and the length that its 8 bits are encoded as
+  -- a byte, and the seven bytes and the length that the encoder writes for its 8 bits
   encodes : (byte : ℕ) (store : List ℕ) (halfBits : ℕ) → Row
-  -- levels with sixteen high ticks behind them, and the count and bytes of their capture
+  -- levels with sixteen high ticks behind them, and the count and the bytes of their capture
   captures : (levels : List Bool) (count : ℕ) (bytes : List ℕ) → Row
-  -- the same levels, and the score that their capture is read with
+  -- levels with sixteen high ticks behind them, and the score of the sniffed reading of their capture
   scores : (levels : List Bool) (score : ℕ) → Row
-  -- levels that no number of high ticks makes a capture of
+  -- levels that make no capture, however many high ticks follow
   captures-nothing : (levels : List Bool) → Row
-  -- a capture, and the length and score that phase 0 reads in it
+  -- a capture, and the length and the score of its phase 0
   reads-at-phase-0 : (capture : List ℕ) (bits score : ℕ) → Row
-  -- a capture in which a search for these lengths finds nothing, in so many steps
+  -- a capture, the preferred lengths of a search that finds nothing in it, and the steps that the search takes
   finds-nothing : (capture lengths : List ℕ) (steps : ℕ) → Row
-  -- a capture, the ticks of its longest low run, and whether they hold the line
+  -- a capture, its longest low run in ticks, and whether that is a held line
   runs-low : (capture : List ℕ) (ticks : ℕ) (held : Bool) → Row
-  -- two senders on a new line of two, started between the same two ticks; and of one of them when it sees the clash, when it samples after
-  -- its break, and what it finds
+  -- Two senders start between the same two ticks, on a new line of two stations. For one of them: the tick at which it sees the clash, the tick at
+  -- which it samples after its break, and the level that it samples.
   clashes : (one other : Sender) (number sees samples : ℕ) (found : Bool) → Row
 
 -- ---- what a row says
+-- What a row says of the definitions. It holds for every byte, maximum or number of ticks that the row leaves open.
 unfoldable pub SaysRow : Row → Type 0
 SaysRow (weighs sample weight) = weightOf sample ≡ weight
 SaysRow (lengths-hold lengths one) = holds (setOf lengths) one ≡ true
@@ -83,6 +85,6 @@ SaysRow (finds-nothing capture lengths steps) =
     (behind : List ℕ) → runOf (newOf (setOf lengths)) (windowOf (capture ++ behind) (length capture)) ≡ record { found = Nothing; steps = steps }
 SaysRow (runs-low capture ticks held) =
     (behind : List ℕ) → (lowRunOf (eventWith capture behind) ≡ ticks) × (heldOf (eventWith capture behind) ≡ held)
--- (it samples at the fourteenth tick of its break)
+-- (a sender samples fourteen ticks after the tick that sees the clash)
 SaysRow (clashes one other number sees samples found) =
     Breaks (bothOn (newLine 2) one other) number sees found × (sees + 14 ≡ samples)

@@ -12,14 +12,14 @@ use Rattle.bench_table.specs.Row.{Row, weighs, lengths-hold, lengths-hol
 abbrev pub wave : Frame → List Bool
 wave frame = waveOf (frameBits frame)
 
--- 16 bits of 0000 in the hands of the first station, and of 8000 in those of the second
+-- the senders of the clash: station 0 with 16 bits of 0000, and station 1 with 16 bits of 8000
 abbrev pub zeros : Sender
 zeros = record { number = 0; by = by-start-tx; bits = 16; first = 0x00; second = 0x00; third = 0 }
 
 abbrev pub eighty : Sender
 eighty = record { number = 1; by = by-start-tx; bits = 16; first = 0x80; second = 0x00; third = 0 }
 
--- Of the last three document 01 asks only that they are run, which the program does. They are proved as well.
+-- The rows of the table. Document 01 asks only that the last three are run, which the program does. They are proved as well.
 unfoldable pub rows : List Row
 rows =
     weighs 0x0F 25
@@ -47,10 +47,11 @@ rows =
     ∷ clashes zeros eighty 1 18 32 high
     ∷ []
 
--- What each row of a list says is so.
+-- Every row of the list holds.
 unfoldable pub AllSay : List Row → Type 0
 AllSay [] = Unit {0}
 AllSay (row ∷ more) = SaysRow row × AllSay more
 
+-- Every row of the bench table holds.
 abbrev pub BenchTable : Type 0
 BenchTable = AllSay rows

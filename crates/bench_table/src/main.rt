@@ -1,5 +1,5 @@
-// The rows of document 01's bench table that are run: each is printed with what the proved calls return, and held to what is stored. The
-// whole table, these rows among it, is proved (specs/Table.antt).
+// The rows of document 01, "Bench table", that are to be run. The program prints each with what the proved calls return, and the gate compares that
+// with the file stdout. All rows are proved too, these included (specs/Table.antt).
 use bench_line::BenchLine;
 use bench_line::LineTold;
 use event::RxCompletedEvent;
@@ -8,10 +8,10 @@ use fsm::DaliBitbangPhy;
 use halfbits::HalfBitBuffer;
 use libc::STDOUT_FILENO;
 
-// Nothing is looked for past this tick.
+// `until` looks no further than this tick.
 const LAST_TICK: u8 = 40;
 
-// A line after so many ticks since the start calls.
+// A line, and the number of ticks since the start calls.
 struct LineAt {
     line: BenchLine,
     tick: u8,
@@ -85,7 +85,7 @@ fn is_breaking(line: BenchLine, number: u8) -> bool {
     }
 }
 
-// The line at the first tick from here on after which the station is in its break, or is not; at the last tick where there is none.
+// Ticks the line until the station is in its break, or until it no longer is, as `breaking` says.
 fn until(at: LineAt, number: u8, breaking: bool) -> LineAt {
     let mut line = at.line;
     let mut tick = at.tick;
@@ -99,7 +99,7 @@ fn until(at: LineAt, number: u8, breaking: bool) -> LineAt {
     LineAt { line, tick }
 }
 
-// Idle is high.
+// A station that sampled high found the line idle.
 fn say_found(idle: LineTold) {
     match idle {
         LineTold::Told(high) => say_level(high),

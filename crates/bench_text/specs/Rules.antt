@@ -16,7 +16,7 @@ use Rattle.bench_text.specs.declared.Refusal.{Refusal}
 use Rattle.bench_text.specs.declared.Refusal.the-variants.{TooLong, NotFourFields, BadNumber, BadSamples}
 
 -- ---- the fields
--- A tab parts two fields: C, the silence in ticks, the count of samples, and the samples.
+-- A line has four fields with a tab between each two: C, the silence in ticks, the count, and the samples.
 abbrev pub silenceField : List ℕ → List ℕ
 silenceField text = fieldAt tab 1 text
 
@@ -27,11 +27,11 @@ abbrev pub samplesField : List ℕ → List ℕ
 samplesField text = fieldAt tab 3 text
 
 -- ---- the limits
--- as many bytes as a line may have before its LF
+-- the most bytes that a line may have before its LF
 abbrev pub lineMax : ℕ
 lineMax = 140
 
--- as long as the silence may be, and as many as the samples may be
+-- the largest silence in ticks, and the largest count
 abbrev pub silenceMax : ℕ
 silenceMax = 255
 
@@ -39,25 +39,28 @@ abbrev pub countMax : ℕ
 countMax = 64
 
 -- ---- the rules
+-- A line has at most 140 bytes.
 unfoldable pub isShort : List ℕ → Bool
 isShort text = leb (length text) lineMax
 
+-- A line has four fields, and the first is C.
 unfoldable pub hasFields : List ℕ → Bool
 hasFields text = eqb (countAt tab text) 4 && sameText (fieldAt tab 0 text) (word "C")
 
--- decimals without leading zeros
+-- The silence and the count are decimals without leading zeros, and neither is above its limit.
 unfoldable pub hasNumbers : List ℕ → Bool
 hasNumbers text = isUpTo silenceMax (silenceField text) && isUpTo countMax (countField text)
 
--- two lower-case hex digits for each sample
+-- There are two lower-case hex digits for each sample, and as many samples as the count says.
 unfoldable pub hasSamples : List ℕ → Bool
 hasSamples text = isHex (valueOf (countField text)) (samplesField text)
 
--- a rule, and why a line that breaks it is refused
+-- a rule, and the refusal of a line that breaks it
 pub record Rule : Type 0 where
   pub holds : List ℕ → Bool
   pub refusal : Refusal
 
+-- the four rules of a line, in the order in which they are tried
 abbrev pub rules : List Rule
 rules =
     record { holds = isShort; refusal = TooLong }
@@ -67,15 +70,17 @@ rules =
     ∷ []
 
 -- ---- the answer
--- The first rule that a line breaks is the one that it is refused by.
+-- A line is refused by the first rule that it breaks. A line that breaks none is good.
 unfoldable pub judgedBy : List Rule → List ℕ → BookLineAnswer
 judgedBy [] text = Good
 judgedBy (rule ∷ rules) text = pick (rule .holds text) (judgedBy rules text) (Refused (rule .refusal))
 
+-- the answer to a line
 abbrev pub judged : List ℕ → BookLineAnswer
 judged text = judgedBy rules text
 
 -- ---- the numbers
+-- the number of each refusal
 abbrev pub refusalNumber : Refusal → ℕ
 refusalNumber TooLong = 1
 refusalNumber NotFourFields = 2
@@ -87,5 +92,6 @@ unfoldable pub bookLineAnswerNumber : BookLineAnswer → ℕ
 bookLineAnswerNumber Good = 0
 bookLineAnswerNumber (Refused refusal) = refusalNumber refusal
 
+-- the refusal number of a line, and 0 for a good one
 abbrev pub refusalIn : List ℕ → ℕ
 refusalIn text = bookLineAnswerNumber (judged text)

@@ -1,5 +1,5 @@
-// A line of the book (document 01, "The bench reader"), without its LF, taken apart. A line that breaks a rule is refused; the rules are tried in
-// the order of specs/Rules.antt.
+// Reads a line of the book (document 01, "The bench reader"), given without its LF. A line that breaks rules is refused by the first one that it
+// breaks, in the order of specs/Rules.antt.
 ghost use mathlib.Core.Path.{_≡_};
 ghost use Rattle.bench_text.specs.Constants.{publicConstants};
 ghost use Rattle.bench_text.specs.Rules.{refusalNumber, bookLineAnswerNumber, refusalIn};
@@ -11,10 +11,10 @@ use text::hex;
 use text::words;
 use window::DALI_RX_SAMPLE_BUF_LEN;
 
-// A line of more bytes is refused. The longest good one has 137.
+// A longer line is refused. The longest good line has 137 bytes.
 pub const LINE_MAX: usize = 140;
 
-// As long as the silence may be, and as many as the samples may be.
+// The largest silence in ticks, and the largest count.
 const SILENCE_MAX: u8 = 255;
 
 const COUNT_MAX: u8 = DALI_RX_SAMPLE_BUF_LEN as u8;
@@ -30,7 +30,7 @@ struct PublicConstants {
     line_max: usize,
 }
 
-// Why a line is refused, each with its number.
+// Why a line is refused, with the number of each refusal.
 pub enum Refusal {
     TooLong = 1,
     NotFourFields = 2,
@@ -49,7 +49,7 @@ pub fn refusal_number(refusal: Refusal) -> u32
     }
 }
 
-// What a good line says: the silence in ticks before the capture, the count of its samples, and the samples. Past the count they are 0.
+// What a good line says: the silence in ticks, the count, and the samples, which are 0 past the count.
 pub struct Capture {
     pub silence: u8,
     pub count: u8,

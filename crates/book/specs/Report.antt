@@ -1,4 +1,4 @@
--- Document 01, "The bench reader": what is printed for a book. Assumes nothing.
+-- Document 01, "The bench reader": what the reader prints for a book. Assumes nothing.
 use Prim.Native.Nat.{ℕ, suc, _+_}
 use mathlib.Core.Bool.{Bool, true, false}
 use mathlib.Core.List.{List, [], _∷_, _++_}
@@ -15,15 +15,17 @@ use Rattle.bench_answers.specs.declared.Counts.{Counts}
 use Rattle.bench_answers.specs.Answer.{rowText, badText, endText}
 
 -- ---- the answer to a line
--- a row for a good line; BAD for a refused one
+-- A good line is answered by a row, and a refused one by a BAD line.
 unfoldable pub answerAs : ℕ → BookLineAnswer → Capture → List ℕ
 answerAs number Good capture = rowText number capture (readingOf capture)
 answerAs number (Refused refusal) capture = badText number refusal
 
+-- the answer to the text of a line
 abbrev pub answerText : ℕ → List ℕ → List ℕ
 answerText number text = answerAs number (bookLineOf text .answer) (bookLineOf text .capture)
 
 -- ---- what is counted
+-- A good line is decoded if its capture is read as a frame of 8, 16 or 24 bits. A refused line is not decoded.
 unfoldable pub isDecodedAs : BookLineAnswer → Capture → Bool
 isDecodedAs Good capture = isDecoded (readingOf capture)
 isDecodedAs (Refused refusal) capture = false
@@ -32,6 +34,7 @@ unfoldable pub isRefusedAs : BookLineAnswer → Bool
 isRefusedAs Good = false
 isRefusedAs (Refused refusal) = true
 
+-- the same for the text of a line
 abbrev pub isDecodedLine : List ℕ → Bool
 isDecodedLine text = isDecodedAs (bookLineOf text .answer) (bookLineOf text .capture)
 
@@ -43,15 +46,17 @@ unfoldable pub countOf : (List ℕ → Bool) → List (List ℕ) → ℕ
 countOf test [] = 0
 countOf test (text ∷ lines) = bit (test text) + countOf test lines
 
+-- the counts that the END line tells
 abbrev pub countsOf : List (List ℕ) → Counts
 countsOf lines = record { lines = length lines; decoded = countOf isDecodedLine lines; refused = countOf isRefusedLine lines }
 
 -- ---- the book
--- the lines from number n on, each answered under its number
+-- the answers to these lines, which are numbered from n on
 unfoldable pub answersFrom : ℕ → List (List ℕ) → List ℕ
 answersFrom n [] = []
 answersFrom n (text ∷ lines) = answerText n text ++ answersFrom (suc n) lines
 
+-- the answers to all lines, and then the END line
 unfoldable pub reportOf : List (List ℕ) → List ℕ
 reportOf lines = answersFrom 1 lines ++ endText (countsOf lines)
 
@@ -59,5 +64,6 @@ reportOf lines = answersFrom 1 lines ++ endText (countsOf lines)
 abbrev pub linesMax : ℕ
 linesMax = 999999
 
+-- the report of an input
 unfoldable pub report : List ℕ → List ℕ
 report input = reportOf (take linesMax (linesOf input))

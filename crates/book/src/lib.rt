@@ -1,5 +1,5 @@
-// The heart of the bench reader (document 01, "The bench reader"): a reader by value that is fed the bytes of a book in chunks of any size
-// and writes the answers into a lent buffer. Where the book is cut into chunks makes no difference.
+// The heart of the bench reader (document 01, "The bench reader"). The caller feeds it a book in chunks of any size, and it writes the answers into a
+// lent buffer. It makes no difference where the book is cut into chunks.
 ghost use mathlib.Core.Path.{_≡_};
 ghost use Prim.Native.Nat.{_+_, _*_, _≤_, _<_};
 ghost use lib.ListN.{length, take as first};
@@ -19,10 +19,10 @@ use lines::LINE_ROOM;
 use lines::Lines;
 use text::fields;
 
-// A book has no more lines: what follows them is not read.
+// The reader reads this many lines of a book, and no line after them.
 pub const MAX_LINES: u32 = 999_999;
 
-// The answer to a last line, and the END line.
+// Room for the answer to a last line, and for the END line.
 pub const FINISH_MAX: usize = ROW_MAX + END_MAX;
 
 // Nobody calls this: its promise says what each public constant is.
@@ -41,14 +41,14 @@ struct PublicConstants {
 }
 
 pub struct BookReader {
-    // What waits of the line whose end has not come.
+    // The unfinished line, whose LF has not come yet.
     lines: Lines,
     counts: Counts,
-    // A line has ended after the last that a book may have.
+    // A line has ended after the last one that is read.
     over: bool,
 }
 
-// How many bytes were written at the buffer's start, or that the buffer is too short and nothing was done.
+// How many bytes were written at the start of the buffer. `NoRoom` tells that the buffer is too short and nothing was done.
 pub enum Said {
     Bytes(usize),
     NoRoom,
@@ -59,7 +59,7 @@ pub struct Fed {
     pub said: Said,
 }
 
-// What a line that has ended leaves: the counts, and the place past its answer.
+// The counts after a line has been answered, and the place past its answer.
 struct Ended {
     counts: Counts,
     at: usize,
@@ -82,14 +82,14 @@ impl BookReader {
         }
     }
 
-    // All the lines that a book may have were read.
+    // The reader has read `MAX_LINES` lines, the most that it reads.
     pub fn is_full(self) -> bool
         ensures { λ r. ⌜ r ≡ isFull self ⌝ }
     {
         MAX_LINES <= self.counts.lines
     }
 
-    // A byte came after them, which is not read.
+    // A byte has come after these lines, and was not read.
     pub fn is_over(self) -> bool
         ensures { λ r. ⌜ r ≡ isOver self ⌝ }
     {
@@ -102,7 +102,7 @@ impl BookReader {
         false
     }
 
-    // Answers every line that ends in the chunk. A buffer of ROW_MAX bytes for each byte of the chunk is always long enough.
+    // Answers every line that ends in the chunk. It asks for `ROW_MAX` bytes of the buffer for each byte of the chunk, which is always enough.
     pub fn feed(self, chunk: &[u8], out: &mut [u8]) -> Fed
         ensures { λ r. ⌜ r ≡ fed self (now (chunk .entry)) (length (now (out .entry))) ⌝ }
         ensures { λ r. ⌜ now (out .exit) ≡ bufferFed self (now (chunk .entry)) (now (out .entry)) ⌝ }
@@ -156,7 +156,7 @@ impl BookReader {
         }
     }
 
-    // The input is at its end: answers a last line without its LF, and tells the counts.
+    // Answers the end of the input: a last line without its LF, and then the counts.
     pub fn finish(self, out: &mut [u8]) -> Said
         ensures { λ r. ⌜ r ≡ finished self (length (now (out .entry))) ⌝ }
         ensures { λ r. ⌜ now (out .exit) ≡ bufferFinished self (now (out .entry)) ⌝ }
@@ -179,7 +179,7 @@ impl BookReader {
     }
 }
 
-// No count passes the most lines that a book has.
+// No count goes past `MAX_LINES`.
 fn one_more(count: u32) -> u32
     ensures { λ r. ⌜ r ≡ oneMore count ⌝ }
 {
@@ -190,7 +190,7 @@ fn one_more(count: u32) -> u32
     }
 }
 
-// The first bytes of `held`, `len` of them, are a whole line: its answer is written, and it is counted.
+// Answers a whole line, the first `len` bytes of `held`, and counts it.
 fn end_line(counts: Counts, held: &[u8; LINE_ROOM], len: usize, out: &mut [u8], at: usize) -> Ended
     requires { ⌜ counts .lines < linesMax ⌝ }
     requires { ⌜ at + rowMax ≤ length (now out) ⌝ }

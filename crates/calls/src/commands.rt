@@ -16,14 +16,14 @@ const OK: Reply = Reply::Done(0);
 
 const NO_STATION: Reply = Reply::Done(9);
 
-// What is kept from line to line.
+// What the program keeps from line to line.
 pub(crate) struct Kept {
     search: BestPhaseSearch,
     station: DaliBitbangPhy,
     bench: BenchLine,
 }
 
-// What a command hands back: what is kept then, and its reply. An enum holds no array, so what has one stands beside it.
+// What a command hands back: what is kept after it, and its reply. An enum holds no array, so the bytes and the station of a reply stand beside it.
 pub(crate) struct Answer {
     pub(crate) kept: Kept,
     pub(crate) reply: Reply,
@@ -82,7 +82,7 @@ impl Kept {
     }
 }
 
-// A new command is a word here, its signature at the same place (`operands` has the letters), and an arm below.
+// To add a command: its word here, its signature at the same place (`operands` explains the letters), and an arm below.
 pub(crate) fn answered(line: &[u8], kept: Kept) -> Answer {
     if lines::LINE_ROOM <= line.len() {
         return kept.says(Reply::Bad);
@@ -170,15 +170,15 @@ fn policy_of(place: u8) -> fsm::CollisionPolicy {
     }
 }
 
-// A tick has three forms: by value, in place, which firmware calls, and copied out and back. A `tick` line takes the second, and a `ticks` line all by
-// turns: their answers are the same, and the comparison with the Rust then shows that each of them is right.
+// The tick has three forms: by value, in place, which firmware calls, and copied out and back. A `tick` line takes the one in place, and a `ticks`
+// line takes all three by turns. Their answers are the same, so the comparison with the Rust tries each of them.
 fn tick(kept: Kept, high: bool) -> Answer {
     let ticked = copied_tick::tick_lent(kept.station, high, true);
     let next = kept.with_station(ticked.station);
     next.says(Reply::Driven(ticked.driven_high))
 }
 
-// A wave has eight levels to a byte, the first at the top. The fill of the one that is told is 0.
+// A byte has eight levels, the first as its top bit. In the answer the fill bits are 0.
 fn ticks(kept: Kept, ops: Operands) -> Answer {
     let levels = ops.bytes;
     let count = (ops.long[2] % 65_536) as usize;
@@ -270,7 +270,7 @@ fn bsstep(kept: Kept, ops: Operands) -> Answer {
     kept.with_search(stepped.search).says(Reply::Step(step))
 }
 
-// A new event that holds a finished search.
+// The sniffed reading of a new event that holds a finished search.
 fn sniffed(found: Found) -> Reply {
     let event = RxCompletedEvent {
         isr_decode: event::IsrDecode::Decoded(found),
@@ -303,7 +303,7 @@ struct Written {
     bytes: Bytes,
 }
 
-// The buffer that is lent has just the bytes of HEX. No station is at hand here: what is known of one's many fields would be searched first.
+// The lent buffer has just the bytes of HEX. No station is at hand here, since the prover would first search the facts of its many fields.
 fn encode_lent(ops: Operands) -> Written {
     let mut bytes = ops.bytes;
     let answer = encode_first(ops, &mut bytes);
@@ -330,7 +330,7 @@ fn lengths(ops: Operands) -> Reply {
     Reply::Number(set.contains(ops.byte[2]) as u16)
 }
 
-// The line before stays where none has that count.
+// If the count is refused, the line before stays.
 fn line(kept: Kept, count: u8) -> Answer {
     let made = BenchLine::new(count);
     let answer = made.answer;

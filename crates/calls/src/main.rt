@@ -1,5 +1,5 @@
-// The call protocol of document 04 over the proved functions: a command a line on standard input, an answer a line on standard output. Safety is all
-// that is proved of it. Here bytes are only moved: `commands` answers a line, `operands` reads it, `reply` writes the answer.
+// The call protocol of document 04 over the proved functions: one command a line on standard input, one answer a line on standard output. Only safety
+// is proved of this program. Here bytes are only moved: `operands` reads a line, `commands` answers it, and `reply` writes the answer.
 mod commands;
 mod operands;
 mod reply;
@@ -12,20 +12,20 @@ use text::fields;
 
 type Line = [u8; LINE_ROOM];
 
-// Past this place one more answer may not fit. None has more than 2,100 bytes.
+// Past this place the answers are written out, so that the next always has room. No answer has more than 2,100 bytes.
 const NEARLY_FULL: usize = ANSWERS_ROOM - 4_096;
 
 struct Session {
     reads: u64,
     kept: Kept,
-    // How many bytes of a line wait for its end, and how many of answers to be written.
+    // How many bytes the unfinished line has, and how many bytes of answers wait to be written.
     len: usize,
     at: usize,
-    // Nothing has failed, and the input may have more.
+    // Nothing has failed, and the input has not ended.
     open: bool,
 }
 
-// Answers the line that waits.
+// Answers a line that has ended.
 fn end_line(mut session: Session, line: &Line, out: &mut Answers) -> Session {
     let answer = commands::answered(fields::first(line, session.len), session.kept);
     let end = reply::put(out, session.at, answer);
@@ -49,7 +49,7 @@ fn flush(mut session: Session, out: &Answers) -> Session {
     session
 }
 
-// Answers every line that ends in a chunk. Each turn takes a byte at least.
+// Answers every line that ends in a chunk. Each turn of the loop takes at least one byte.
 fn take_in(mut session: Session, chunk: &[u8], line: &mut Line, out: &mut Answers) -> Session {
     let mut from = 0;
     while from < chunk.len() {
@@ -66,7 +66,7 @@ fn take_in(mut session: Session, chunk: &[u8], line: &mut Line, out: &mut Answer
     flush(session, out)
 }
 
-// Reads once, and answers the lines that are whole by then. At the input's end a last line without its LF is answered too.
+// Reads once, and answers the lines that have ended. At the end of the input it also answers a last line without LF.
 fn turn(mut session: Session, chunk: &mut Answers, line: &mut Line, out: &mut Answers) -> Session {
     let report = stdio::read_chunk(session.reads, chunk);
     if let stdio::Report::Bytes(count) = report {
@@ -81,7 +81,7 @@ fn turn(mut session: Session, chunk: &mut Answers, line: &mut Line, out: &mut An
     session
 }
 
-// Nothing says that the input ends, so the reads are counted up to a number that no run comes to.
+// A loop must end, but an input need not. So the reads are counted, up to a number that no run reaches.
 fn main() {
     let mut chunk = [0u8; ANSWERS_ROOM];
     let mut line = [0u8; LINE_ROOM];

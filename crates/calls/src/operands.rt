@@ -1,10 +1,10 @@
-// What stands behind a command's word, read by a signature: `:` for the word, and a letter for each operand.
+// Reads what stands behind a command's word, by a signature: `:` for the word, and a letter for each operand.
 //
 //     l k b t n    a decimal up to 1, 8, 255, 4,096 or 65,535: a level, steps, a byte, ticks, a count
 //     s            a number from -128 to 127
 //     h m d        a number of 2, 8 or 16 hex digits: a byte, a mask of lengths, a decode's data
 //     p            a collision policy, as its place among the three
-//     f w x        bytes in hex: the 7 of a send, the 64 of a capture, or any number of them, `-` for none
+//     f w x        bytes in hex: the 7 of a start, the 64 of a capture, or any number of them, with `-` for none
 use event::RxCompletedEvent;
 use halfbits::HalfBitBuffer;
 use lengths::BitLengths;
@@ -17,18 +17,18 @@ use text::words;
 use text::writing;
 use window::DALI_RX_SAMPLE_BUF_LEN;
 
-// A line has no room for more bytes.
+// A line has no room for the hex of more bytes.
 pub(crate) type Bytes = [u8; BYTES_ROOM];
 
 pub(crate) const BYTES_ROOM: usize = 1_024;
 
-// No line has more fields, the command's word among them. A place is taken modulo that number, so that nothing is to be proved of it.
+// No command has more fields, its word included. A place is taken modulo this number, so that nothing has to be proved of it.
 const FIELDS: usize = 8;
 
 pub(crate) struct Operands {
-    // Whether there are as many fields as letters, each of its letter's form.
+    // The line has as many fields as the signature has letters, and each field has the form of its letter.
     pub(crate) good: bool,
-    // A number stands at its field's place, cut to each width.
+    // A number stands at the place of its field, cut to each width.
     pub(crate) byte: [u8; FIELDS],
     pub(crate) short: [u16; FIELDS],
     pub(crate) long: [u64; FIELDS],
@@ -38,7 +38,7 @@ pub(crate) struct Operands {
     pub(crate) len: usize,
 }
 
-// Every field is read, also behind one that is bad.
+// Reads every field, also those behind a bad one.
 pub(crate) fn read(line: &[u8], signature: &[u8]) -> Operands {
     let mut given = Operands {
         good: fields::count(line, b' ') == signature.len(),
@@ -55,7 +55,7 @@ pub(crate) fn read(line: &[u8], signature: &[u8]) -> Operands {
     given
 }
 
-// A mask's lengths are listed to make the set. 32 is no length.
+// Makes a set from a list of the mask's lengths. No set holds 32, which fills the list.
 pub(crate) fn lengths_of(mask: u64) -> BitLengths {
     let mut lengths = [32u8; 32];
     for length in 0..32u8 {
@@ -141,7 +141,7 @@ impl Operands {
         self
     }
 
-    // `LEN PHASE SCORE DATA16` from a place on. `better` has no data, which plays no part there.
+    // `LEN PHASE SCORE DATA16` from a place on. A `better` line has no data, and `is_better_decode` looks at none.
     pub(crate) fn decode(self, place: usize) -> window::PhaseDecode {
         let n = place % FIELDS;
         window::PhaseDecode {

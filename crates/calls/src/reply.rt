@@ -1,4 +1,4 @@
-// What a command is answered: a value, and the one function that writes it.
+// The reply to a command: a value, and the one function that writes it.
 use crate::commands::Answer;
 use search::Found;
 use text::hex;
@@ -9,14 +9,14 @@ pub(crate) type Answers = [u8; ANSWERS_ROOM];
 
 pub(crate) const ANSWERS_ROOM: usize = 65_536;
 
-// Some are told with the bytes, or the station, that stand beside them in `Answer`.
+// Some replies are written with the bytes or the station beside them in `Answer`.
 pub(crate) enum Reply {
     Bad,
     None,
     // `ok` for 0, else `refused N`
     Done(u8),
     Number(u16),
-    // a driven level or the line's, and waves of them
+    // a driven level, the level of the line, and a wave of each
     Driven(bool),
     Level(bool),
     DrivenWave,
@@ -28,7 +28,7 @@ pub(crate) enum Reply {
     Phase(window::PhaseDecode),
     Run(search::SearchAnswer),
     Step(search::PhaseSearch),
-    // how many; the bytes are the text of what they say
+    // how many steps; the bytes are the text of their answers
     Steps(u8),
     Sniffed(rx_decode::SniffedDecode),
     Backward(rx_decode::BackwardByte),
@@ -106,7 +106,7 @@ fn put_digits(out: &mut [u8], at: usize, word: &[u8], number: u64, width: usize)
     hex::put_hex_digits(out, at, number, width)
 }
 
-// No bytes are `-`.
+// `-` stands for no bytes.
 fn put_bytes(out: &mut [u8], at: usize, word: &[u8], bytes: &[u8]) -> usize {
     let at = writing::put_text(out, at, word);
     if bytes.len() == 0 {

@@ -1,4 +1,4 @@
--- Demand 2, from frame to wave. Assumes nothing.
+-- Document 01, "The wave" (demand 2): from frame to wave. Assumes nothing.
 use Prim.Native.Nat.{ℕ}
 use mathlib.Core.Bool.{Bool, true}
 use mathlib.Core.List.{List}
@@ -10,12 +10,12 @@ use Rattle.fsm.specs.declared.DaliBitbangPhy.{DaliBitbangPhy}
 use Rattle.station_theorems.specs.Calls.{Reached}
 use Rattle.frames.specs.Sends.{Start, MayStart, FitsBuffer, Sent}
 
--- Any station that calls lead to, whatever they were, takes a start where that is allowed and sends any bits that fit.
+-- A reached station that may start takes the start and sends any bits that fit the buffer.
 abbrev pub BitsToWave : Type 0
 BitsToWave =
     (row : List Bool) → FitsBuffer row → (s : DaliBitbangPhy) → Reached s → (by : Start) → MayStart by s → Sent by s (bufferOf row) row
 
--- And so it sends a frame of 8, 16 or 24 bits that the encoder gave it.
+-- So it sends any frame of 8, 16 or 24 bits as the encoder wrote it.
 abbrev pub FrameToWave : Type 0
 FrameToWave =
     (bits first second third : ℕ) → isBitCount bits ≡ true → (s : DaliBitbangPhy) → Reached s → (by : Start) → MayStart by s

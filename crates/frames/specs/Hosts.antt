@@ -1,4 +1,4 @@
--- A host at work in the middle of a frame: the calls that it makes between the ticks of a station. Assumes nothing.
+-- Document 01, "The wave" (demand 2): a host, and the calls that it makes between the ticks of a station. Assumes nothing.
 use Prim.Native.Nat.{ℕ, zero, suc, _≤_, _<_}
 use mathlib.Core.Bool.{Bool, true, false}
 use mathlib.Core.List.{List, [], _∷_}
@@ -11,27 +11,27 @@ use Rattle.frames.specs.Sends.{idleAt}
 use Rattle.frames.specs.ReadAs.{Whole}
 
 -- ---- its calls
--- A host is what it calls after so many ticks and before the next one. Getters are left out: they change nothing.
+-- A host, given by the calls that it makes after n ticks and before the next one, for each n. Calls that only read the station are left out.
 abbrev pub Host : Type 0
 Host = ℕ → List Call
 
--- the station after so many ticks, each with the level that it samples, and after the calls that follow each of them
+-- the station after n ticks and the host's calls before, between and after them; tick i, counted from 0, samples `level i`
 unfoldable pub afterLevelsAmid : Host → ℕ → (ℕ → Bool) → DaliBitbangPhy → DaliBitbangPhy
 afterLevelsAmid host zero level s = afterAll (host 0) s
 afterLevelsAmid host (suc n) level s = afterAll (host (suc n)) (tickOf (afterLevelsAmid host n level s) (level n))
 
--- the same where it hears itself alone
+-- The same for a station alone on its line: each tick samples the level that the station drove before it.
 unfoldable pub aloneAmid : Host → ℕ → DaliBitbangPhy → DaliBitbangPhy
 aloneAmid host zero s = afterAll (host 0) s
 aloneAmid host (suc n) s = afterAll (host (suc n)) (tickOf (aloneAmid host n s) (drives (aloneAmid host n s)))
 
--- ---- which it may make
--- every call of a list is of this kind
+-- ---- the calls that a host may make
+-- Every call of the list is of this kind.
 unfoldable pub Each : (Call → Bool) → List Call → Type 0
 Each kind [] = Unit {0}
 Each kind (c ∷ cs) = (kind c ≡ true) × Each kind cs
 
--- What leaves a station in Tx sending: any call but a tick, since starts are refused.
+-- A station in Tx goes on sending through any call but a tick, since it refuses starts.
 unfoldable pub keepsTx : Call → Bool
 keepsTx (tick high) = false
 keepsTx (start-tx hb) = true
@@ -42,7 +42,7 @@ keepsTx take-rx = true
 keepsTx acknowledge = true
 keepsTx (policy p) = true
 
--- What leaves a station in Rx hearing: start_tx is refused there, start_answer is not.
+-- A station in Rx goes on capturing through any call but a tick and `start_answer`. It refuses `start_tx`.
 unfoldable pub keepsRx : Call → Bool
 keepsRx (tick high) = false
 keepsRx (start-tx hb) = true
@@ -53,7 +53,7 @@ keepsRx take-rx = true
 keepsRx acknowledge = true
 keepsRx (policy p) = true
 
--- What leaves a capture ready: neither a take nor an acknowledgement, nor a start, which drops it.
+-- A capture that is ready stays so until the host takes it, acknowledges it or makes a start.
 unfoldable pub keepsCapture : Call → Bool
 keepsCapture (tick high) = false
 keepsCapture (start-tx hb) = false
@@ -64,13 +64,13 @@ keepsCapture take-rx = false
 keepsCapture acknowledge = false
 keepsCapture (policy p) = true
 
--- A host that lets a station send so many bits. Once it is Idle again, the host starts nothing.
+-- A host that lets a station send that many bits. It makes no tick in between. Once the station is Idle again, it starts nothing.
 pub record LetsSend (bits : ℕ) (host : Host) : Type 0 where
   pub in-tx : (ticks : ℕ) → Each keepsTx (host ticks)
   pub idle : (ticks : ℕ) → idleAt bits ≤ ticks → Each isBetween (host ticks)
 
--- A host that lets a station hear a wave, whose second tick starts Rx at the latest. Before that the host starts nothing, and once the wave
--- has been heard whole it leaves the capture.
+-- A host that lets a station hear a wave. The second tick of the wave starts Rx at the latest, and before it the host starts nothing. Later it starts
+-- no answer. Once the station has heard the wave whole, the host leaves the capture ready.
 pub record LetsHear (frame : List Bool) (host : Host) : Type 0 where
   pub idle : (ticks : ℕ) → ticks < 2 → Each isBetween (host ticks)
   pub in-rx : (ticks : ℕ) → Each keepsRx (host ticks)

@@ -1,4 +1,4 @@
--- Demand 2, from frame to wave: every other frame of a station is sent as its first. Assumes nothing.
+-- Document 01, "The wave" (demand 2): a station sends every later frame as it sends its first. Assumes nothing.
 use mathlib.Core.Bool.{Bool}
 use mathlib.Core.List.{List, [], _∷_}
 use lib.ListN.{length}
@@ -8,27 +8,28 @@ use Rattle.station_theorems.specs.Calls.{Reached}
 use Rattle.station_theorems.specs.Ticks.{alone}
 use Rattle.frames.specs.Sends.{Start, startedBy, MayStart, FitsBuffer, idleAt, Sent}
 
--- bits to be sent, and the call that is given them
+-- bits to send, and the call that starts them
 pub record Sending : Type 0 where
   pub by : Start
   pub row : List Bool
 
+-- Each of them fits the buffer.
 unfoldable pub AllFit : List Sending → Type 0
 AllFit [] = Unit {0}
 AllFit (one ∷ more) = FitsBuffer (one .row) × AllFit more
 
--- the station that has sent these one after the other, each once it was Idle
+-- the station after it has sent these one after the other, each started as soon as the one before had left it Idle
 unfoldable pub afterSending : List Sending → DaliBitbangPhy → DaliBitbangPhy
 afterSending [] s = s
 afterSending (one ∷ more) s =
     afterSending more (alone (idleAt (length (one .row))) (startedBy (one .by) s (bufferOf (one .row)) .station))
 
--- the first of these and the next one
+-- the one that is sent first, of these and the next one
 unfoldable pub firstOf : List Sending → Sending → Sending
 firstOf [] next = next
 firstOf (one ∷ more) next = one
 
--- The second frame is sent as the first was, and the hundredth too: once the first start is allowed, so are all others.
+-- If the station may start the first frame, it takes the start of the next one too and sends it as its wave, however many came before.
 abbrev pub NextFrameToWave : Type 0
 NextFrameToWave =
     (before : List Sending) → AllFit before → (next : Sending) → FitsBuffer (next .row)

@@ -1,4 +1,4 @@
--- Demand 2: a wave is the wave of one frame, and a reading the reading of one. Assumes nothing.
+-- Document 01, "The wave" (demand 2): a wave is the wave of one frame only, and a reading the reading of one frame only. Assumes nothing.
 use Prim.Native.Nat.{ℕ}
 use mathlib.Core.Bool.{Bool}
 use mathlib.Core.List.{List}
@@ -8,15 +8,15 @@ use Rattle.halfbits.specs.Wave.{levelAt}
 use Rattle.halfbits.specs.HalfBits.{bufferOf}
 use Rattle.frames.specs.ReadAs.{kindOf}
 
--- one level at every tick, also at those past the last bit
+-- Both rows of bits give the same level at every tick, also past the last bit.
 abbrev pub OneWave : List Bool → List Bool → Type 0
 OneWave these those = (tick : ℕ) → levelAt these tick ≡ levelAt those tick
 
--- Bits with one wave are one row of bits, as many and the same.
+-- Two rows of bits with the same wave are equal: as many bits, and the same ones.
 abbrev pub OneWaveOneRow : Type 0
 OneWaveOneRow = (these those : List Bool) → OneWave these those → these ≡ those
 
--- Two frames with one wave are one frame; so are two that are encoded alike, and two that are read alike.
+-- Two frames are equal if they have the same wave, if they have the same half-bits, or if they are read alike.
 abbrev pub OneWaveOneFrame : Type 0
 OneWaveOneFrame =
     (this that : Frame) → AreBytes (bytesOf this) → AreBytes (bytesOf that) → OneWave (frameBits this) (frameBits that) → this ≡ that

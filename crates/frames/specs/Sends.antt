@@ -1,4 +1,4 @@
--- What it means that a start is taken, and that a station sends bits. Assumes nothing.
+-- Document 01, "The wave" and "Machine": when a station takes a start, and what it means that it sends bits. Assumes nothing.
 use Prim.Native.Nat.{ℕ, _+_, _*_, _≤_, _<_}
 use mathlib.Core.Bool.{Bool, true}
 use mathlib.Core.List.{List}
@@ -18,35 +18,37 @@ use Rattle.fsm.specs.Polling.{polled}
 use Rattle.station_theorems.specs.Ticks.{drives, IsIdle, IsSending, alone}
 
 -- ---- what is sent
--- the two calls that start a frame
+-- the two calls that start a station
 pub data Start : Type 0 where
   by-start-tx : Start
   by-start-answer : Start
 
+-- what that call hands back
 unfoldable pub startedBy : Start → DaliBitbangPhy → HalfBitBuffer → Started
 startedBy by-start-tx s hb = startTx s hb
 startedBy by-start-answer s hb = startAnswer s hb
 
--- start_tx is taken in Idle, start_answer in Idle and in Rx
+-- A station takes `start_tx` in Idle, and `start_answer` in Idle and Rx.
 unfoldable pub takenIn : Start → BusState → Bool
 takenIn by-start-tx state = isIdle state
 takenIn by-start-answer state = hears state
 
+-- The station is in a state in which it takes that start.
 abbrev pub MayStart : Start → DaliBitbangPhy → Type 0
 MayStart by s = takenIn by (s .core .bus .«bus_state») ≡ true
 
--- as many bits as a half-bit buffer has room for
+-- The half-bits of the start bit, of these bits and of the released end are no more than 54, the largest length.
 abbrev pub FitsBuffer : List Bool → Type 0
 FitsBuffer row = halfBitsOf (length row) ≤ 54
 
--- the tick at which the station is Idle again: 89, 153 and 217 for 8, 16 and 24 bits
+-- the tick at which the station is Idle again, counted from the start call: 89, 153 and 217 for 8, 16 and 24 bits
 abbrev pub idleAt : ℕ → ℕ
 idleAt bits = 8 * bits + 25
 
 -- ---- what is driven
--- A started station drives three high ticks and then, from tick 4 on, the wave and nothing else; tick 0 is the start itself. It is sending
--- until it is Idle again: a poll tells so, and another start is refused. (`at`: the station after so many ticks, each of which samples the
--- level that it drives.)
+-- What a started station does. `at` gives the station after a number of ticks, and tick 0 is the start call. The station leaves the line high up to
+-- tick 3, and from tick 4 on it drives the wave and nothing else. Before it is Idle again, it is in Tx, a poll tells Transmitting, and it refuses
+-- every start. Afterwards a poll tells Ok.
 pub record SendsAt (row : List Bool) (at : ℕ → DaliBitbangPhy → DaliBitbangPhy) (s : DaliBitbangPhy) : Type 0 where
   pub armed : (tick : ℕ) → tick < 4 → drives (at tick s) ≡ high
   pub wave : (tick : ℕ) → drives (at (4 + tick) s) ≡ levelAt row tick
@@ -56,10 +58,10 @@ pub record SendsAt (row : List Bool) (at : ℕ → DaliBitbangPhy → DaliBitban
   pub idle : (tick : ℕ) → idleAt (length row) ≤ tick → IsIdle (at tick s)
   pub sent : (tick : ℕ) → idleAt (length row) ≤ tick → polled (at tick s) .answer ≡ Ok
 
--- hearing itself alone, and with no call after the start
+-- A station alone on its line does so, if no call follows the start.
 abbrev pub Sends : List Bool → DaliBitbangPhy → Type 0
 Sends row s = SendsAt row alone s
 
--- The start is not refused, and the frame is sent.
+-- The start is not refused, and the station sends the bits.
 abbrev pub Sent : Start → DaliBitbangPhy → HalfBitBuffer → List Bool → Type 0
 Sent by s hb row = (startedBy by s hb .answer ≡ start.Started) × Sends row (startedBy by s hb .station)

@@ -1,2 +1,2 @@
-// What a frame's wave has to do with a station: sent as its wave, and read from its wave. Theorems over the definitions of the other crates
-// alone (specs/, proofs/).
+// No code: theorems about frames and waves. A station sends a frame as its wave, and the capture of a wave is read as its frame. The statements are
+// in specs/, and their proofs in proofs/.

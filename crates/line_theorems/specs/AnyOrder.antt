@@ -1,5 +1,5 @@
--- The order in which stations are asked does not matter, nor do ticks between the calls: each answer of LoneSender and TwoSenders stands from
--- tick 230 on until it is told. Assumes nothing.
+-- Document 01, "Bench line" (demand 3): from tick 230 on the host may ask the stations in any order, and ticks may come between its calls. Each
+-- answer of LoneSender and TwoSenders stands at least until the host has got it. Assumes nothing.
 use Prim.Native.Nat.{ℕ, _≤_, _<_}
 use mathlib.Core.Bool.{Bool, false}
 use mathlib.Core.List.{List}
@@ -12,18 +12,19 @@ use Rattle.line_theorems.specs.Reached.{LineCall, poll, take-idle, take-
 use Rattle.line_theorems.specs.OnLine.{ticksOn, AllIdle, Sender, frameIn, bufferIn, IsSender, startedOn, HoldsFrame, Polls, FindsIdle}
 use Rattle.line_theorems.specs.TwoSenders.{Pair, bothOn, pullsIn, FirstDifference}
 
--- ---- what stands, whatever is called of whichever stations, if only nothing is started
--- a frame, until its event is taken or acknowledged
+-- ---- what stands through any calls that start nothing
+-- The station holds the frame until a call takes or acknowledges its event.
 abbrev pub KeepsFrame : Frame → ℕ → BenchLine → Type 0
 KeepsFrame frame number l =
     (calls : List LineCall) → StartNothing calls → Without (take-rx number) calls → Without (acknowledge number) calls
     → HoldsFrame frame number (lineAfterAll calls l)
 
--- that a frame was sent: every poll says it
+-- Every poll of the station tells Ok.
 abbrev pub KeepsOk : ℕ → BenchLine → Type 0
 KeepsOk number l = (calls : List LineCall) → StartNothing calls → Polls Ok number (lineAfterAll calls l)
 
--- A clash is told by the first poll and by no later one, and what the break found by the first take and by no later one.
+-- The first poll of the station tells Collision, and every later one Ok. The first take of the after-break mark tells whether the break found the
+-- line idle, and every later one tells that it did not.
 pub record KeepsClash (found : Bool) (number : ℕ) (l : BenchLine) : Type 0 where
   pub knows : (calls : List LineCall) → StartNothing calls → Without (poll number) calls → Polls Collision number (lineAfterAll calls l)
   pub knows-once : (calls : List LineCall) → StartNothing calls → (more : List LineCall) → StartNothing more
@@ -33,6 +34,7 @@ pub record KeepsClash (found : Bool) (number : ℕ) (l : BenchLine) : Type 0 whe
       → FindsIdle false number (lineAfterAll more (lineAfter (take-idle number) (lineAfterAll calls l)))
 
 -- ---- one sender
+-- Every poll of the sender tells Ok, and every listener holds the frame.
 abbrev pub LoneSenderInAnyOrder : Type 0
 LoneSenderInAnyOrder =
     (l : BenchLine) → ReachedLine l → AllIdle l → (a : Sender) → IsSender l a → (ticks : ℕ) → 230 ≤ ticks
@@ -41,6 +43,7 @@ LoneSenderInAnyOrder =
     × ((listener : ℕ) → listener < stationsOn l → (listener ≡ a .number → ⊥) → KeepsFrame (frameIn a) listener now)
 
 -- ---- two senders
+-- If the frames are equal, every poll of both senders tells Ok, and every listener holds the frame.
 abbrev pub EqualFramesInAnyOrder : Type 0
 EqualFramesInAnyOrder =
     (l : BenchLine) → ReachedLine l → AllIdle l → (a b : Sender) → Pair l a b → frameIn a ≡ frameIn b → (ticks : ℕ) → 230 ≤ ticks
@@ -48,7 +51,8 @@ EqualFramesInAnyOrder =
     KeepsOk (a .number) now × KeepsOk (b .number) now
     × ((listener : ℕ) → listener < stationsOn l → (listener ≡ a .number → ⊥) → (listener ≡ b .number → ⊥) → KeepsFrame (frameIn a) listener now)
 
--- The one that pulled low at the first half-bit that differs finds the line idle, and the other does not.
+-- If the frames differ, both senders tell of the clash. The one that pulled low at the first half-bit that differs finds the line idle, and the other
+-- does not.
 abbrev pub DifferentFramesInAnyOrder : Type 0
 DifferentFramesInAnyOrder =
     (l : BenchLine) → ReachedLine l → AllIdle l → (a b : Sender) → Pair l a b → (j : ℕ) → FirstDifference (bufferIn a) (bufferIn b) j

@@ -1,4 +1,4 @@
--- The ticks of a clash. Assumes nothing.
+-- Document 01, "Machine" and "Bench line" (demand 3): the ticks at which two senders see their clash. Assumes nothing.
 use Prim.Native.Nat.{ℕ, suc, _+_, _*_}
 use Rattle.laws.specs.Pick.{pick}
 use Rattle.halfbits.specs.declared.HalfBitBuffer.{HalfBitBuffer}
@@ -7,15 +7,16 @@ use Rattle.line_theorems.specs.Reached.{ReachedLine}
 use Rattle.line_theorems.specs.OnLine.{AllIdle, Sender, bufferIn, Breaks}
 use Rattle.line_theorems.specs.TwoSenders.{Pair, bothOn, pullsIn, FirstDifference}
 
--- the tick that drives a half-bit; the start call is tick 0
+-- the tick that drives half-bit j, the start call being tick 0
 abbrev pub drivenAt : ℕ → ℕ
 drivenAt j = 4 + 4 * j
 
--- The tick at which a sender sees the clash, half-bit j being the first that differs. The one that released there sees it on that half-bit's
--- third tick, and the one that pulled on the third tick of the next half-bit that it releases.
+-- Half-bit j is the first that differs. The sender that releases it sees the clash on its third tick. The sender that pulls it low sees the clash on
+-- the third tick of the next half-bit that it releases.
 abbrev pub clashAt : HalfBitBuffer → ℕ → ℕ
 clashAt hb j = pick (pullsIn hb j) (pick (pullsIn hb (suc j)) (drivenAt j + 10) (drivenAt j + 6)) (drivenAt j + 2)
 
+-- Two senders see their clash at these ticks. After its break, the one that pulled half-bit j low samples high, and the other samples low.
 abbrev pub ClashTicks : Type 0
 ClashTicks =
     (l : BenchLine) → ReachedLine l → AllIdle l → (a b : Sender) → Pair l a b → (j : ℕ) → FirstDifference (bufferIn a) (bufferIn b) j

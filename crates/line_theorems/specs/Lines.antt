@@ -1,4 +1,4 @@
--- What holds of every reached line. Assumes nothing.
+-- Document 01, "Bench line": what holds of every reached line. Assumes nothing.
 use Prim.Native.Nat.{ℕ, _≤_, _<_}
 use mathlib.Core.Path.{_≡_}
 use lib.ListN.{length}
@@ -8,18 +8,19 @@ use Rattle.bench_line.specs.declared.BenchLine.{BenchLine}
 use Rattle.bench_line.specs.Line.{stationsOn, stationAt, levelLeft}
 use Rattle.line_theorems.specs.Reached.{ReachedLine}
 
+-- the invariants of a line
 pub record LineHolds (l : BenchLine) : Type 0 where
-  -- one to four stations, in four places
+  -- The line has one to four stations, in four places.
   pub from-one : 1 ≤ l .count
   pub to-four : l .count ≤ 4
   pub places : length (l .stations) ≡ 4
-  -- each is a station that calls lead to
+  -- Each of its stations is a reached station.
   pub reached : (number : ℕ) → number < stationsOn l → Reached (stationAt l number)
-  -- places past the count hold new stations
+  -- The places past the count hold new stations.
   pub new-past : (number : ℕ) → stationsOn l ≤ number → stationAt l number ≡ newStation
-  -- the level is what the stations leave
+  -- The level of the line is the one that its stations leave.
   pub left : l .level ≡ levelLeft (stationsOn l) (l .stations)
 
--- for any calls from a new line
+-- The invariants hold after any calls from a new line.
 abbrev pub LineInvariants : Type 0
 LineInvariants = (l : BenchLine) → ReachedLine l → LineHolds l

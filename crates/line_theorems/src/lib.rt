@@ -1,2 +1,2 @@
-// Stations on one line: a lone sender is heard by all, and two senders agree or know that they clashed. Theorems over the definitions of the
-// other crates alone (specs/, proofs/).
+// No code: theorems about stations on one line. Every listener hears a lone sender. Two senders that start together agree if their frames are equal,
+// and else both know that they clashed. The statements are in specs/, and their proofs in proofs/.

@@ -1,4 +1,4 @@
--- A chunk taken in whole: the lines that end in it, and what waits then. Assumes nothing.
+-- Document 01, "The bench reader": the lines that end in a chunk, and the unfinished line after it. Assumes nothing.
 use Prim.Native.Nat.{ℕ}
 use mathlib.Core.List.{List, [], _∷_}
 use Rattle.text.specs.Letters.{lf}
@@ -6,7 +6,7 @@ use Rattle.text.specs.Fields.{fieldsAt}
 use Rattle.lines.specs.declared.Lines.{Lines}
 use Rattle.lines.specs.Lines.{waiting, extended, emptied}
 
--- The parts of a chunk stand between its LFs. Each but the last ends the line that waits; the last waits itself.
+-- The LFs part a chunk. Each part but the last completes a line, and the last part belongs to the line that is then unfinished.
 unfoldable pub endedParts : Lines → List (List ℕ) → List (List ℕ)
 endedParts lines [] = []
 endedParts lines (part ∷ []) = []
@@ -17,10 +17,10 @@ afterParts lines [] = lines
 afterParts lines (part ∷ []) = extended lines part
 afterParts lines (part ∷ next ∷ rest) = afterParts (emptied (extended lines part)) (next ∷ rest)
 
--- the lines that end in a chunk, as far as there is room for each
+-- the lines that end in a chunk, each as far as there is room for it
 abbrev pub ended : Lines → List ℕ → List (List ℕ)
 ended lines chunk = endedParts lines (fieldsAt lf chunk)
 
--- what waits after it
+-- the unfinished line after a chunk
 abbrev pub after : Lines → List ℕ → Lines
 after lines chunk = afterParts lines (fieldsAt lf chunk)

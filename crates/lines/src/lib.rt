@@ -1,5 +1,5 @@
-// Bytes that come in chunks of any size, as lines. `Lines` is what waits of a line whose end has not come, by value; `take` adds to it from a chunk,
-// one line at a time. Where the input is cut into chunks makes no difference.
+// Makes lines of bytes that come in chunks of any size. `Lines` holds the unfinished line, the one whose LF has not come yet. `take` adds to it from
+// a chunk, one line at a time. It makes no difference where the input is cut into chunks.
 ghost use mathlib.Core.Path.{_≡_};
 ghost use Prim.Native.Nat.{_+_, _-_, _≤_, min};
 ghost use lib.ListN.{length, take as first};
@@ -9,7 +9,7 @@ ghost use Rattle.lines.specs.Lines.{lineRoom, newLines, heldBy, extended
 use text::fields;
 use text::writing;
 
-// Room for the longest line that counts, of 2,047 bytes, and one byte more, which tells that a line is longer.
+// Room for 2,047 bytes, the longest line that a program takes, and for one byte more, which shows that a line is longer.
 pub const LINE_ROOM: usize = 2_048;
 
 // Nobody calls this: its promise says what each public constant is.
@@ -25,13 +25,13 @@ struct PublicConstants {
     line_room: usize,
 }
 
-// The first `len` bytes are those of the line whose end has not come, as far as there is room.
+// The first `len` bytes are the unfinished line, as far as there is room for it.
 pub struct Lines {
     pub held: [u8; LINE_ROOM],
     pub len: usize,
 }
 
-// What `take` answers: how many bytes wait now, the place in the chunk to go on from, and whether the line has ended.
+// What `take` answers: how many bytes of the line are held now, the place in the chunk to go on from, and whether the line has ended.
 pub struct Taken {
     pub len: usize,
     pub next: usize,
@@ -49,8 +49,8 @@ impl Lines {
     }
 }
 
-// Takes in the chunk's bytes from a place on, up to the first LF or the chunk's end. A line that has ended stands in the first bytes of `held`,
-// without its LF; the next one is taken in with a `len` of 0.
+// Takes in the bytes of the chunk from `from` on, up to the first LF or the end of the chunk. If the line has ended, the first bytes of `held` are
+// the line without its LF, and the caller takes in the next line with a `len` of 0.
 pub fn take(held: &mut [u8; LINE_ROOM], len: usize, chunk: &[u8], from: usize) -> Taken
     ensures { λ r. ⌜ r ≡ taken (heldBy (now (held .entry)) len) (now (chunk .entry)) from ⌝ }
     ensures { λ r. ⌜ now (held .exit) ≡ extended (heldBy (now (held .entry)) len) (partFrom (now (chunk .entry)) from) .held ⌝ }
@@ -79,7 +79,7 @@ pub fn take(held: &mut [u8; LINE_ROOM], len: usize, chunk: &[u8], from: usize) -
     }
 }
 
-// Adds bytes to those that wait, and answers how many wait then. What has no room is dropped.
+// Adds bytes to the unfinished line, and answers how many it then has. Bytes without room are dropped.
 fn keep(held: &mut [u8; LINE_ROOM], len: usize, bytes: &[u8]) -> usize
     ensures { λ r. ⌜ r ≡ len + min (length (now (bytes .entry))) (lineRoom - len) ⌝ }
     ensures { λ r. ⌜ now (held .exit) ≡ sets (now (held .entry)) len (first (lineRoom - len) (now (bytes .entry))) ⌝ }

@@ -1,1 +1,1 @@
-// Nothing runs here. The seal that makes a mark is in specs/; only a crate that names this one in crates.txt can set it.
+// No code: the seal that makes marks is in specs/. Only a crate that names this one in crates.txt can use it.

@@ -1,4 +1,4 @@
--- The calls that change a station, and the stations that they lead to from a new one. Assumes nothing.
+-- Document 01, "Machine": the calls that change a station, and the stations that they lead to from a new one. Assumes nothing.
 use mathlib.Core.Bool.{Bool, true, false}
 use mathlib.Core.List.{List, [], _∷_}
 use mathlib.Core.Path.{_≡_}
@@ -11,7 +11,7 @@ use Rattle.fsm.specs.Starting.{startTx, startAnswer}
 use Rattle.fsm.specs.Polling.{polled}
 use Rattle.fsm.specs.Calls.{withPolicy, tookIdle, acknowledged, tookRx}
 
--- Each call that changes a station; the others only tell of it.
+-- The calls that can change a station. All other calls only read it.
 pub data Call : Type 0 where
   tick : Bool → Call
   start-tx : HalfBitBuffer → Call
@@ -22,7 +22,7 @@ pub data Call : Type 0 where
   acknowledge : Call
   policy : CollisionPolicy → Call
 
--- the station that it leaves
+-- the station after one call
 unfoldable pub after : Call → DaliBitbangPhy → DaliBitbangPhy
 after (tick high) s = tickOf s high
 after (start-tx hb) s = startTx s hb .station
@@ -33,12 +33,12 @@ after take-rx s = tookRx s .station
 after acknowledge s = acknowledged s
 after (policy p) s = withPolicy s p
 
--- the station after these, one after the other
+-- the station after these calls, made one after the other
 unfoldable pub afterAll : List Call → DaliBitbangPhy → DaliBitbangPhy
 afterAll [] s = s
 afterAll (c ∷ cs) s = afterAll cs (after c s)
 
--- A host may make such a call between any two ticks: it polls, takes, acknowledges or sets the policy. It is no tick, and starts nothing.
+-- A call between ticks: the host polls, takes, acknowledges or sets the policy. A tick or a start is no such call.
 unfoldable pub isBetween : Call → Bool
 isBetween (tick high) = false
 isBetween (start-tx hb) = false
@@ -49,7 +49,7 @@ isBetween take-rx = true
 isBetween acknowledge = true
 isBetween (policy p) = true
 
--- no call among these starts an answer
+-- Of all calls only `start_answer` begins an answer.
 unfoldable pub isAnswer : Call → Bool
 isAnswer (tick high) = false
 isAnswer (start-tx hb) = false
@@ -60,11 +60,12 @@ isAnswer take-rx = false
 isAnswer acknowledge = false
 isAnswer (policy p) = false
 
+-- None of these calls starts an answer.
 unfoldable pub NoAnswer : List Call → Type 0
 NoAnswer [] = Unit {0}
 NoAnswer (c ∷ cs) = (isAnswer c ≡ false) × NoAnswer cs
 
--- any calls in any order
+-- A station is reached if any calls in any order lead to it from a new station.
 pub data Reached : DaliBitbangPhy → Type 0 where
   new : Reached newStation
   called : {s : DaliBitbangPhy} (c : Call) → Reached s → Reached (after c s)

@@ -1,1 +1,1 @@
-// What holds of every station that calls lead to from a new one: theorems over the definitions of `fsm` alone (specs/, proofs/).
+// No code: theorems about every station that calls lead to from a new one. The statements are in specs/, and their proofs in proofs/.

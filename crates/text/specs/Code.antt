@@ -6,16 +6,16 @@ use Rattle.text.specs.Letters.{minus}
 use Rattle.text.specs.Decimals.{digitOf, decimalOf}
 use Rattle.text.specs.Writing.{placePast, bufferWith}
 
--- a text was written in `before` where it fits, which left `after`; `next` is the place past it
+-- A text was written into the buffer `before` if it fits, which left `after`. `next` is then the place past the text, and else the place itself.
 pub record Put (text : List ℕ) (place : ℕ) (before after : List ℕ) (next : ℕ) : Type 0 where
   pub past : next ≡ placePast text place before
   pub left : after ≡ bufferWith text place before
 
--- the last decimal digits of a number, so many of them
+-- the last `count` decimal digits of a number
 unfoldable pub digits : ℕ → ℕ → List ℕ
 digits zero n = []
 digits (suc count) n = digits count (n / 10) ++ (digitOf (n % 10) ∷ [])
 
--- a minus, and a number behind it
+-- a minus and then a number
 abbrev pub minusAnd : ℕ → List ℕ
 minusAnd n = minus ∷ decimalOf n

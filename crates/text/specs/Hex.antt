@@ -1,4 +1,4 @@
--- Lower-case hex: bytes of two digits each, and numbers of a fixed width. Assumes nothing.
+-- Document 01, "The bench reader": lower-case hex, two digits for a byte, and numbers of a fixed width. Assumes nothing.
 use Prim.Native.Nat.{ℕ, zero, suc, _+_, _*_, _-_, _/_, _%_}
 use mathlib.Core.Bool.{Bool, true, _&&_}
 use mathlib.Core.List.{List, [], _∷_, _++_}
@@ -21,45 +21,47 @@ digitValue byte =
 unfoldable pub hexDigit : ℕ → ℕ
 hexDigit value = pick (ltb value 10) (letter "0" + value) (letter "a" + (value - 10))
 
+-- Every byte of the field is a hex digit.
 unfoldable pub allHex : List ℕ → Bool
 allHex [] = true
 allHex (byte ∷ bytes) = ltb (digitValue byte) 16 && allHex bytes
 
 -- ---- bytes
--- the bytes that two digits each spell, the upper first
+-- the bytes that the digits spell, two digits each, the upper one first
 unfoldable pub bytesOf : List ℕ → List ℕ
 bytesOf [] = []
 bytesOf (top ∷ []) = []
 bytesOf (top ∷ low ∷ rest) = (digitValue top * 16 + digitValue low) ∷ bytesOf rest
 
--- the digits of so many bytes and nothing else
+-- The field is two hex digits for each of `count` bytes, and nothing else.
 unfoldable pub isHex : ℕ → List ℕ → Bool
 isHex count field = eqb (length field) (2 * count) && allHex field
 
--- a buffer that such a field fills whole; any other field leaves it as it was
+-- If the field is the hex of as many bytes as the buffer has, they fill it. Any other field leaves it as it was.
 unfoldable pub filledBy : List ℕ → List ℕ → List ℕ
 filledBy field buffer = pick (isHex (length buffer) field) (bytesOf field) buffer
 
+-- a byte as two hex digits, the upper one first
 unfoldable pub hexOf : ℕ → List ℕ
 hexOf byte = hexDigit (byte / 16) ∷ hexDigit (byte % 16) ∷ []
 
--- two digits a byte, the first byte first
+-- the bytes in hex, the first byte first
 unfoldable pub hexesOf : List ℕ → List ℕ
 hexesOf [] = []
 hexesOf (byte ∷ bytes) = hexOf byte ++ hexesOf bytes
 
--- ---- a number of so many digits
--- what the digits come to after those that came to n
+-- ---- a number of a fixed width
+-- the value of these digits behind others of value n
 unfoldable pub hexValueFrom : ℕ → List ℕ → ℕ
 hexValueFrom n [] = n
 hexValueFrom n (digit ∷ digits) = hexValueFrom (n * 16 + digitValue digit) digits
 
--- just so many digits, sixteen at most: a number has no more than 64 bits
+-- the number in a field of exactly `width` hex digits, at most sixteen, since a number has 64 bits
 unfoldable pub hexNumberIn : ℕ → List ℕ → Number
 hexNumberIn width field =
     pick (leb width 16 && eqb (length field) width && allHex field) (a-number (hexValueFrom 0 field)) no-number
 
--- the last digits of a number, so many of them
+-- the last `width` hex digits of a number
 unfoldable pub hexDigitsOf : ℕ → ℕ → List ℕ
 hexDigitsOf zero number = []
 hexDigitsOf (suc width) number = hexDigitsOf width (number / 16) ++ (hexDigit (number % 16) ∷ [])

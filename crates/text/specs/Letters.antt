@@ -1,4 +1,4 @@
--- Letters and words as the bytes that they are. Assumes nothing.
+-- Document 01, "The bench reader": letters, words and marks as their bytes. Assumes nothing.
 use Prim.Native.Nat.{ℕ}
 use Prim.Native.Char.{Char, code}
 use Prim.Native.String.{String, [] as no-letter, _∷_ as _then_}
@@ -14,6 +14,7 @@ word no-letter = []
 word (first then rest) = letter first ∷ word rest
 
 -- ---- the marks of the bench's texts
+-- the mark between two fields
 abbrev pub tab : ℕ
 tab = letter "\t"
 
@@ -21,8 +22,10 @@ tab = letter "\t"
 abbrev pub lf : ℕ
 lf = letter "\n"
 
+-- the mark between two words
 abbrev pub space : ℕ
 space = letter " "
 
+-- the sign of a number below 0
 abbrev pub minus : ℕ
 minus = letter "-"

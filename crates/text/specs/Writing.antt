@@ -1,4 +1,4 @@
--- A text written into a lent buffer. Assumes nothing.
+-- Document 01, "The bench reader": a text that is written into a lent buffer. Assumes nothing.
 use Prim.Native.Nat.{ℕ, _+_}
 use mathlib.Core.Bool.{Bool}
 use mathlib.Core.List.{List}
@@ -7,18 +7,19 @@ use lib.ListN.{length}
 use lib.Seq.{sets}
 use Rattle.laws.specs.Pick.{pick}
 
--- there is room for so many bytes at a place of a buffer
+-- The buffer has room for that many bytes at the place.
 abbrev pub roomAt : ℕ → ℕ → List ℕ → Bool
 roomAt bytes place buffer = leb (place + bytes) (length buffer)
 
--- Where there is so much room at a place, a text is written there, and the place past it is told. Else nothing is written, and the place stays.
+-- If the buffer has that much room at the place, the text is written there, and the answer is the place past it. If not, nothing is written, and the
+-- answer is the place itself.
 unfoldable pub placeAfter : ℕ → List ℕ → ℕ → List ℕ → ℕ
 placeAfter room text place buffer = pick (roomAt room place buffer) (place + length text) place
 
 unfoldable pub bufferAfter : ℕ → List ℕ → ℕ → List ℕ → List ℕ
 bufferAfter room text place buffer = pick (roomAt room place buffer) (sets buffer place text) buffer
 
--- a text is written where there is room for it, and no more is asked
+-- The same for a text that asks for no more room than its own.
 abbrev pub placePast : List ℕ → ℕ → List ℕ → ℕ
 placePast text place buffer = placeAfter (length text) text place buffer
 

@@ -1,4 +1,4 @@
-// Decimals: digits with no sign and no zero in front.
+// Decimals: digits without a sign and without leading zeros.
 ghost use mathlib.Core.Bool.{_&&_};
 ghost use mathlib.Core.Path.{_≡_};
 ghost use lib.ListN.{length};
@@ -7,7 +7,7 @@ ghost use Rattle.text.specs.Writing.{placePast, bufferWith};
 ghost use Rattle.text.specs.Code.{Put, digits};
 use crate::writing;
 
-// A number that a field stands for, in decimal or in hex.
+// What a field says in decimal or in hex: a number, or nothing of that form.
 pub enum Number {
     Is(u64),
     Bad,
@@ -27,7 +27,7 @@ pub(crate) fn is_digit(byte: u8) -> bool
     byte <= b'9'
 }
 
-// Whether there is a byte, and no zero in front of another one.
+// Whether the field has a byte and no leading zero.
 fn well_begun(field: &[u8]) -> bool
     ensures { λ r. ⌜ isDecimal (now (field .entry)) ≡ (r && allDigits (now (field .entry))) ⌝ }
 {
@@ -40,7 +40,7 @@ fn well_begun(field: &[u8]) -> bool
     field[0] != b'0'
 }
 
-// A number of at most `most`. Digits of any number are read, and none overflows.
+// Reads a decimal up to `most`. The field may have any number of digits, and nothing overflows.
 pub fn read_number(field: &[u8], most: u32) -> Number
     ensures { λ r. ⌜ r ≡ numberIn most (now (field .entry)) ⌝ }
 {
@@ -64,7 +64,7 @@ pub fn read_number(field: &[u8], most: u32) -> Number
     Number::Is(number)
 }
 
-// A number of at most `most`, which a byte holds.
+// Reads a decimal up to `most` into a byte.
 pub fn read_byte(field: &[u8], most: u8) -> Byte
     ensures { λ r. ⌜ r ≡ byteIn most (now (field .entry)) ⌝ }
 {
@@ -87,7 +87,7 @@ pub(crate) fn places(number: u32) -> usize
     count
 }
 
-// The last `count` digits of a number.
+// Writes the last `count` digits of a number.
 fn put_digits(out: &mut [u8], at: usize, count: usize, number: u32) -> usize
     ensures { λ r. ⌜ Put (digits count number) at (now (out .entry)) (now (out .exit)) r ⌝ }
 {

@@ -1,11 +1,11 @@
-// Where the fields of a text are. A mark parts two of them, so two marks side by side have an empty field between them, and a field that isn't
-// there is read as an empty one.
+// Finds the fields of a text. A mark stands between each two, so two marks side by side have an empty field between them. A field that isn't there
+// reads as an empty one.
 ghost use mathlib.Core.Path.{_≡_};
 ghost use Prim.Native.Nat.{_+_};
 ghost use lib.ListN.{take, drop};
 ghost use Rattle.text.specs.Fields.{countAt, fieldAt, bytesBefore};
 
-// The place of the first mark at or after `from`. Where there is none it is the length, or `from` where that is past it.
+// The place of the first mark from `from` on. If there is none, it is the length of the text, or `from` if that is more.
 pub fn find(text: &[u8], mark: u8, from: usize) -> usize
     ensures { λ r. ⌜ r ≡ from + bytesBefore mark (drop from (now (text .entry))) ⌝ }
 {
@@ -19,7 +19,7 @@ pub fn find(text: &[u8], mark: u8, from: usize) -> usize
     i
 }
 
-// The first bytes, so many of them, or all where there are fewer.
+// The first `count` bytes of the text, or all of it if it is shorter.
 pub fn first(text: &[u8], count: usize) -> &[u8]
     ensures { λ r. ⌜ now r ≡ take count (now (text .entry)) ⌝ }
 {
@@ -29,7 +29,7 @@ pub fn first(text: &[u8], count: usize) -> &[u8]
     &text[..count]
 }
 
-// How many fields there are. Every text has one.
+// An empty text has one field too.
 pub fn count(text: &[u8], mark: u8) -> usize
     ensures { λ r. ⌜ r ≡ countAt mark (now (text .entry)) ⌝ }
 {
@@ -44,7 +44,7 @@ pub fn count(text: &[u8], mark: u8) -> usize
     fields
 }
 
-// Field n, the first being 0.
+// Field n, counted from 0.
 pub fn field(text: &[u8], mark: u8, n: u8) -> &[u8]
     ensures { λ r. ⌜ now r ≡ fieldAt mark n (now (text .entry)) ⌝ }
 {

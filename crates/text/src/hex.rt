@@ -1,4 +1,4 @@
-// Lower-case hex: bytes of two digits each, and numbers of a fixed width.
+// Lower-case hex: two digits for a byte, and numbers of a fixed width.
 ghost use mathlib.Core.Bool.{true};
 ghost use mathlib.Core.Path.{_≡_};
 ghost use Prim.Native.Nat.{_*_, _<_};
@@ -9,7 +9,7 @@ use crate::decimals;
 use crate::decimals::Number;
 use crate::writing;
 
-// The value of a digit, and 16 for any other byte.
+// The value of a hex digit, and 16 for any other byte.
 fn digit_value(byte: u8) -> u8
     ensures { λ r. ⌜ r ≡ digitValue byte ⌝ }
 {
@@ -38,7 +38,7 @@ fn all_hex(field: &[u8]) -> bool
     true
 }
 
-// Whether the field is the digits of so many bytes.
+// Whether the field is two hex digits for each of `count` bytes, and nothing else.
 fn is_hex(field: &[u8], count: usize) -> bool
     ensures { λ r. ⌜ r ≡ isHex count (now (field .entry)) ⌝ }
 {
@@ -51,7 +51,7 @@ fn is_hex(field: &[u8], count: usize) -> bool
     all_hex(field)
 }
 
-// The bytes of as many digits as they need.
+// Fills the buffer from a field that has two hex digits for each of its bytes.
 fn fill(field: &[u8], bytes: &mut [u8])
     requires { ⌜ (length (now field) ≡ 2 * length (now bytes)) × (allHex (now field) ≡ true) ⌝ }
     ensures { λ r. ⌜ now (bytes .exit) ≡ bytesOf (now (field .entry)) ⌝ }
@@ -65,7 +65,7 @@ fn fill(field: &[u8], bytes: &mut [u8])
     }
 }
 
-// Reads the digits of all the bytes, and answers whether the field is just that. Else the bytes stay.
+// Fills the buffer and answers true, if the field is two hex digits for each of its bytes. If not, the buffer stays as it was.
 pub fn read_hex(field: &[u8], bytes: &mut [u8]) -> bool
     ensures { λ r. ⌜ r ≡ isHex (length (now (bytes .entry))) (now (field .entry)) ⌝ }
     ensures { λ r. ⌜ now (bytes .exit) ≡ filledBy (now (field .entry)) (now (bytes .entry)) ⌝ }
@@ -77,7 +77,7 @@ pub fn read_hex(field: &[u8], bytes: &mut [u8]) -> bool
     true
 }
 
-// A number of just `width` digits, sixteen at most.
+// Reads a number of exactly `width` hex digits. No width above sixteen is read.
 pub fn read_hex_number(field: &[u8], width: usize) -> Number
     ensures { λ r. ⌜ r ≡ hexNumberIn width (now (field .entry)) ⌝ }
 {
@@ -111,7 +111,7 @@ fn hex_digit(value: u8) -> u8
     }
 }
 
-// Each byte as two digits.
+// Writes each byte as two digits.
 pub fn put_hex(out: &mut [u8], at: usize, bytes: &[u8]) -> usize
     ensures { λ r. ⌜ r ≡ placePast (hexesOf (now (bytes .entry))) at (now (out .entry)) ⌝ }
     ensures { λ r. ⌜ now (out .exit) ≡ bufferWith (hexesOf (now (bytes .entry))) at (now (out .entry)) ⌝ }
@@ -131,7 +131,7 @@ pub fn put_hex(out: &mut [u8], at: usize, bytes: &[u8]) -> usize
     end
 }
 
-// The last `width` digits of a number.
+// Writes the last `width` hex digits of a number.
 pub fn put_hex_digits(out: &mut [u8], at: usize, number: u64, width: usize) -> usize
     ensures { λ r. ⌜ r ≡ placePast (hexDigitsOf width number) at (now (out .entry)) ⌝ }
     ensures { λ r. ⌜ now (out .exit) ≡ bufferWith (hexDigitsOf width number) at (now (out .entry)) ⌝ }

@@ -1,6 +1,6 @@
-// What the bench's texts are made of, read and written: fields, words, decimals, signed numbers and hex. A reader answers whether a field is of
-// its form. A writer puts a text into a lent buffer from a place on and answers the place past it; a text that has no room there is not
-// written at all, and the place is handed back.
+// Reads and writes what the bench's texts are made of: fields, words, decimals, signed numbers and hex. A reader tells whether a field has its form.
+// A writer writes a text into a lent buffer from a place on, and answers the place past the text. If the text has no room there, the writer writes
+// nothing and answers the place that it was given.
 pub mod decimals;
 pub mod fields;
 pub mod hex;

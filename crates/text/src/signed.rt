@@ -29,7 +29,7 @@ pub fn read_signed(field: &[u8]) -> Signed
     Signed::Is(number as i8)
 }
 
-// What stands behind a minus.
+// Reads the digits behind a minus.
 fn negative(digits: &[u8]) -> Signed
     ensures { λ r. ⌜ r ≡ belowZero (now (digits .entry)) ⌝ }
 {
@@ -71,7 +71,7 @@ pub fn put_signed(out: &mut [u8], at: usize, number: i8) -> usize
     decimals::put_decimal(out, at, digits)
 }
 
-// A minus and the digits behind it, where both have room.
+// Writes a minus and then the digits, if there is room for both.
 fn put_below_zero(out: &mut [u8], at: usize, digits: u32) -> usize
     ensures { λ r. ⌜ r ≡ placePast (minusAnd digits) at (now (out .entry)) ⌝ }
     ensures { λ r. ⌜ now (out .exit) ≡ bufferWith (minusAnd digits) at (now (out .entry)) ⌝ }

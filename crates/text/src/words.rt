@@ -1,4 +1,4 @@
-// A field that is a word, or one of several.
+// Tells whether a field is a word, and which word of a list it is.
 ghost use mathlib.Core.Path.{_≡_};
 ghost use Rattle.text.specs.Words.{sameText, wordsOf, placeAmong};
 use crate::fields;
@@ -19,7 +19,7 @@ pub fn is(field: &[u8], word: &[u8]) -> bool
     true
 }
 
-// Which of the words the field is, counted from 0; how many there are where it is none of them. A space parts two words.
+// The place of the field among the words, counted from 0. If it is none of them, the answer is the number of words. A space stands between each two.
 pub fn place(field: &[u8], words: &[u8]) -> usize
     ensures { λ r. ⌜ r ≡ placeAmong (now (field .entry)) (wordsOf (now (words .entry))) ⌝ }
 {

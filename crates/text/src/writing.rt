@@ -1,11 +1,11 @@
-// Bytes and texts into a lent buffer.
+// Writes bytes and texts into a lent buffer.
 ghost use mathlib.Core.List.{[], _∷_};
 ghost use mathlib.Core.Path.{_≡_};
 ghost use Prim.Native.Nat.{_+_};
 ghost use lib.Dec.{leb};
 ghost use Rattle.text.specs.Writing.{placePast, bufferWith};
 
-// Whether so many bytes have room at a place of a buffer of this length. No sum overflows.
+// Whether a buffer of `len` bytes has room for that many bytes at a place. It subtracts, since a sum could overflow.
 pub fn has_room(len: usize, at: usize, bytes: usize) -> bool
     ensures { λ r. ⌜ r ≡ leb (at + bytes) len ⌝ }
 {
