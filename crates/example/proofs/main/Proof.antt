@@ -22,14 +22,14 @@ encode-requires c κs = search needs
 start-tx-requires : tie.Need-start-tx-requires Inv-loop μ-loop
 start-tx-requires c κs = search needs
 
-say-start-requires : tie.Need-say-start-requires Inv-loop μ-loop
-say-start-requires c κs = search needs
+told-requires : tie.Need-told-requires Inv-loop μ-loop
+told-requires c κs = search needs
 
 start-tx-requires-2 : tie.Need-start-tx-requires-2 Inv-loop μ-loop
 start-tx-requires-2 c κs = search needs
 
-say-start-requires-2 : tie.Need-say-start-requires-2 Inv-loop μ-loop
-say-start-requires-2 c κs = search needs
+told-requires-2 : tie.Need-told-requires-2 Inv-loop μ-loop
+told-requires-2 c κs = search needs
 
 loop-holds : tie.Need-loop-holds Inv-loop μ-loop
 loop-holds c = search needs
@@ -52,8 +52,8 @@ loop-again c = search needs
 poll-tx-state-requires : tie.Need-poll-tx-state-requires Inv-loop μ-loop
 poll-tx-state-requires c κs = search needs
 
-say-poll-requires : tie.Need-say-poll-requires Inv-loop μ-loop
-say-poll-requires c κs = search needs
+say-result-requires : tie.Need-say-result-requires Inv-loop μ-loop
+say-result-requires c κs = search needs
 
 take-completed-rx-event-requires : tie.Need-take-completed-rx-event-requires Inv-loop μ-loop
 take-completed-rx-event-requires c κs = search needs
@@ -80,9 +80,9 @@ main-spec =
     new-requires-2
     encode-requires
     start-tx-requires
-    say-start-requires
+    told-requires
     start-tx-requires-2
-    say-start-requires-2
+    told-requires-2
     loop-holds
     tick-requires
     tick-requires-2
@@ -90,7 +90,7 @@ main-spec =
     loop-less
     loop-again
     poll-tx-state-requires
-    say-poll-requires
+    say-result-requires
     take-completed-rx-event-requires
     decode-sniffed-requires
     say-frame-requires
