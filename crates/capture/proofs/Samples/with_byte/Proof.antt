@@ -40,13 +40,15 @@ word-with-requires-8 c κs = search needs
 
 returns : tie.Need-returns
 returns c =
-    let start = c .before .before .before .before .before .before .before .before in
+    let five-words = c .before .before .before in
+    let two-words = five-words .before .before .before in
+    let start = two-words .before .before in
     rw (
-      c .before .before .before .before .before .before .before .word-with .ensures,
-      c .before .before .before .before .before .before .word-with2 .ensures,
-      c .before .before .before .before .before .word-with3 .ensures,
-      c .before .before .before .before .word-with4 .ensures,
-      c .before .before .before .word-with5 .ensures,
+      two-words .before .word-with .ensures,
+      two-words .word-with2 .ensures,
+      five-words .before .before .word-with3 .ensures,
+      five-words .before .word-with4 .ensures,
+      five-words .word-with5 .ensures,
       c .before .before .word-with6 .ensures,
       c .before .word-with7 .ensures,
       c .word-with8 .ensures,
