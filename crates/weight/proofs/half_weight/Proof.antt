@@ -50,17 +50,20 @@ bit-weight-requires-4 c κs = omega arith
 add-result-3 : tie.Need-add-result-3
 unfolding bitWeight pick
 add-result-3 c =
+    let two-bits = c .before .before in
     rw
-    (c .before .before .before .bit-weight .ensures, c .before .before .bit-weight2 .ensures, c .before .bit-weight3 .ensures, c .bit-weight4 .ensures)
-    (fits-below w16 four 16 tt _ (c .before .before .before .before .pre))
+    (two-bits .before .bit-weight .ensures, two-bits .bit-weight2 .ensures, c .before .bit-weight3 .ensures, c .bit-weight4 .ensures)
+    (fits-below w16 four 16 tt _ (two-bits .before .before .pre))
 
 returns : tie.Need-returns
 unfolding bitWeight halfWeight pick
 returns c =
-    let n = c .before .before .before .before .args .half in
+    let two-bits = c .before .before in
+    let start = two-bits .before .before in
+    let n = start .args .half in
     rw
-    (c .before .before .before .bit-weight .ensures, c .before .before .bit-weight2 .ensures, c .before .bit-weight3 .ensures, c .bit-weight4 .ensures)
-    (same→eq (back (four n)) (halfWeight n) (below (λ n. sameZ (back (four n)) (halfWeight n)) 16 tt n (c .before .before .before .before .pre)))
+    (two-bits .before .bit-weight .ensures, two-bits .bit-weight2 .ensures, c .before .bit-weight3 .ensures, c .bit-weight4 .ensures)
+    (same→eq (back (four n)) (halfWeight n) (below (λ n. sameZ (back (four n)) (halfWeight n)) 16 tt n (start .pre)))
 
 pub half-weight-spec : {M : Type 1} → statement M
 half-weight-spec =
