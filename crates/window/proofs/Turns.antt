@@ -100,12 +100,16 @@ split len score v x rest Idle = sym (joined-none len score v)
 split len score v x rest Held = refl
 split len score v x rest None = sym (joined-after len score v x rest)
 
+-- what is read in all from a bit on whose late peek gives that stop
+abbrev pub readOn : SampleWindow → ℕ → ℤ → ℕ → ℕ → ℕ → ℕ → PeekAround → PeekStop → PhaseRead
+readOn w most phase p len score v a s =
+    onStop s (read.Bits (reading len score v)) read.Held
+    (joined (len + 1) (score + a .weightmax) (pushedOf v len (a .weightmax)) (bitsFrom (73 - (len + 1)) w most phase (p + a .pmax) (len + 1)))
+
 pub turned : (w : SampleWindow) (most : ℕ) (phase : ℤ) (p len score v ticks : ℕ) (a : PeekAround) (s : PeekStop) (x : PhaseRead)
     → 1 + 7 * len ≤ p → a ≡ aroundOf w phase p → a .stop ≡ s → ticks ≡ sampleBits w → p + 1 < ticks → len ≤ most
     → joined len score v (bitsFrom (73 - len) w most phase p len) ≡ x
-    → onStop s (read.Bits (reading len score v)) read.Held
-    (joined (len + 1) (score + a .weightmax) (pushedOf v len (a .weightmax)) (bitsFrom (73 - (len + 1)) w most phase (p + a .pmax) (len + 1)))
-    ≡ x
+    → readOn w most phase p len score v a s ≡ x
 turned w most phase p len score v ticks a s x low e es et h k inv =
     let ef : 73 - len ≡ suc (73 - (len + 1)) = omega arith in
     let rest = bitsFrom (73 - (len + 1)) w most phase (p + a .pmax) (len + 1) in

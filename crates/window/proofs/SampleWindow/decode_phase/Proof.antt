@@ -85,17 +85,26 @@ stored-requires : tie.Need-stored-requires
 stored-requires c κs = search needs
 
 placed-requires : tie.Need-placed-requires
-placed-requires c κs = (rw (c .stored .ensures) (fits _ _ (sym (c .before .before .before .read .given .1) ∙ c .before .before .before .before .before .read-phase .ensures)), omega arith)
+placed-requires c κs =
+    let with-bits = c .before .before .before in
+    (rw (c .stored .ensures) (fits _ _ (sym (with-bits .read .given .1) ∙ with-bits .before .before .read-phase .ensures)), omega arith)
 
 returns : tie.Need-returns
 returns c =
+    let answered = c .before .before .before in
+    let biased = answered .before in
     c .failed .ensures
-    ∙ none _ _ _ _ (toZ-ofZ (c .before .before .before .before .before .fits .phase-ticks)) (c .before .before .before .before .from-earliest .result) (c .before .before .before .before .from-earliest .ensures .0) (sym (c .before .enum-told .given .1) ∙ c .before .before .before .read-phase .ensures)
+    ∙ none _ _ _ _ (toZ-ofZ (biased .before .fits .phase-ticks)) (biased .from-earliest .result) (biased .from-earliest .ensures .0)
+    (sym (c .before .enum-told .given .1) ∙ answered .read-phase .ensures)
 
 returns-2 : tie.Need-returns-2
 returns-2 c =
-    some _ _ _ _ (toZ-ofZ (c .before .before .before .before .before .before .before .before .fits .phase-ticks)) (c .before .before .before .before .before .before .before .from-earliest .result) (c .before .before .before .before .before .before .before .from-earliest .ensures .0) _ (sym (c .before .before .before .before .read .given .1) ∙ c .before .before .before .before .before .before .read-phase .ensures)
-    (c .before .before .reported .ensures) (c .before .stored .ensures) (c .placed .ensures)
+    let counted = c .before .before in
+    let with-bits = counted .before .before in
+    let answered = with-bits .before .before in
+    let biased = answered .before in
+    some _ _ _ _ (toZ-ofZ (biased .before .fits .phase-ticks)) (biased .from-earliest .result) (biased .from-earliest .ensures .0) _
+    (sym (with-bits .read .given .1) ∙ answered .read-phase .ensures) (counted .reported .ensures) (c .before .stored .ensures) (c .placed .ensures)
 
 pub decode-phase-spec : {M : Type 1} → statement M
 decode-phase-spec =

@@ -59,8 +59,11 @@ cast-result : tie.Need-cast-result
 cast-result c = search needs
 
 returns-3 : tie.Need-returns-3
-returns-3 c = let a = c .before .before .before .before .args in
-    joined (windowWith (a .bytes .now) (a .len) (a .bits)) _ _ _ (c .before .before .before .if1 .left) (c .before .before .if2 .left) (c .before .byte .ensures) (c .byte2 .ensures) (search needs)
+returns-3 c =
+    let inside = c .before .before in
+    let a = inside .before .before .args in
+    joined (windowWith (a .bytes .now) (a .len) (a .bits)) _ _ _ (inside .before .if1 .left) (inside .if2 .left)
+    (c .before .byte .ensures) (c .byte2 .ensures) (search needs)
 
 pub peek8-spec : {M : Type 1} → statement M
 peek8-spec =

@@ -70,8 +70,15 @@ stop-of-requires : tie.Need-stop-of-requires
 stop-of-requires c κs = search needs
 
 returns : tie.Need-returns
-returns c = let a = c .before .before .before .before .before .before .before .before .args in
-    put (windowWith (a .bytes .now) (a .len) (a .bits)) _ _ (c .before .before .before .before .before .before .before .before .pre .0) (c .before .before .before .before .before .before .before .peeks-around .ensures) (c .before .before .before .before .before .before .sample-weight .ensures) (c .before .before .before .before .before .sample-weight2 .ensures) (c .before .before .before .before .sample-weight3 .ensures) (c .before .before .before .larger .ensures) (c .before .before .larger2 .ensures) (c .before .stride .ensures) (c .stop-of .ensures)
+returns c =
+    let compared = c .before .before .before in
+    let weighed = compared .before in
+    let peeked = weighed .before .before .before in
+    let start = peeked .before in
+    let a = start .args in
+    put (windowWith (a .bytes .now) (a .len) (a .bits)) _ _ (start .pre .0) (peeked .peeks-around .ensures)
+    (weighed .before .before .sample-weight .ensures) (weighed .before .sample-weight2 .ensures) (weighed .sample-weight3 .ensures)
+    (compared .larger .ensures) (c .before .before .larger2 .ensures) (c .before .stride .ensures) (c .stop-of .ensures)
 
 pub weighted-peek-around-spec : {M : Type 1} → statement M
 weighted-peek-around-spec =
