@@ -32,10 +32,14 @@ loop-less : tie.Need-loop-less Inv-loop μ-loop
 loop-less c = let g = goes _ _ _ (c .before .before .before .step .ensures .0) (c .before .enum-told .given .1) in omega arith
 
 loop-again : tie.Need-loop-again Inv-loop μ-loop
-loop-again c = run-next _ _ _ _ (c .before .before .before .step .ensures .0) (c .before .enum-told .given .1) (c .before .before .before .before .loop .inv)
+loop-again c =
+    let stepped = c .before .before .before in
+    run-next _ _ _ _ (stepped .step .ensures .0) (c .before .enum-told .given .1) (stepped .before .loop .inv)
 
 returns : tie.Need-returns Inv-loop μ-loop
-returns c = tells-run _ _ _ (run-done _ _ _ _ _ (c .before .before .before .step .ensures .0) (c .before .answer .given .1) (c .before .before .before .before .loop .inv))
+returns c =
+    let stepped = c .before .before .before in
+    tells-run _ _ _ (run-done _ _ _ _ _ (stepped .step .ensures .0) (c .before .answer .given .1) (stepped .before .loop .inv))
 
 pub run-spec : {M : Type 1} → statement M
 run-spec =

@@ -39,8 +39,17 @@ after-scan-requires c κs = search needs
 
 returns-3 : tie.Need-returns-3
 unfolding stepOf
-returns-3 c = tells _ _ _
-    (rw (c .after-scan .ensures, c .before .decode-phase2 .ensures, c .before .before .scan-phase .ensures, scan-back, on-false (ne-eqb _ _ (c .before .before .before .before .if1 .left)), on-false (le-ltb _ _ (c .before .before .before .if2 .left))))
+returns-3 c =
+    let scans = c .before .before .before in
+    tells _ _ _
+    (rw (
+      c .after-scan .ensures,
+      c .before .decode-phase2 .ensures,
+      c .before .before .scan-phase .ensures,
+      scan-back,
+      on-false (ne-eqb _ _ (scans .before .if1 .left)),
+      on-false (le-ltb _ _ (scans .if2 .left)),
+    ))
 
 pub step-spec : {M : Type 1} → statement M
 step-spec =
