@@ -26,13 +26,29 @@ byte-of-requires c κs = search needs
 
 returns-2 : tie.Need-returns-2
 unfolding byteIn
-returns-2 c = tells-byte _ _
-    (simp (← backward-mask, ← c .before .before .before .before .before .before .try-decode .ensures, c .before .before .before .before .found .given .1, on-true (eq-eqb _ _ (c .before .if1 .taken)), c .byte-of .ensures))
+returns-2 c =
+    let sized = c .before .before in
+    let has-found = sized .before .before in
+    tells-byte _ _
+    (simp (
+      ← backward-mask,
+      ← has-found .before .before .try-decode .ensures,
+      has-found .found .given .1,
+      on-true (eq-eqb _ _ (c .before .if1 .taken)),
+      c .byte-of .ensures,
+    ))
 
 returns-3 : tie.Need-returns-3
 unfolding byteIn
-returns-3 c = tells-byte _ _
-    (simp (← backward-mask, ← c .before .before .before .before .before .try-decode .ensures, c .before .before .before .found .given .1, on-false (ne-eqb _ _ (c .if1 .left))))
+returns-3 c =
+    let has-found = c .before .before .before in
+    tells-byte _ _
+    (simp (
+      ← backward-mask,
+      ← has-found .before .before .try-decode .ensures,
+      has-found .found .given .1,
+      on-false (ne-eqb _ _ (c .if1 .left)),
+    ))
 
 pub decode-backward-byte-spec : {M : Type 1} → statement M
 decode-backward-byte-spec =

@@ -26,10 +26,15 @@ sniffed-from-decoded-requires c κs = search needs
 returns-2 : tie.Need-returns-2
 unfolding sniffedOf
 returns-2 c =
-    let decode = c .before .before .before .found .given .0 .0 in
+    let has-found = c .before .before .before in
+    let decode = has-found .found .given .0 .0 in
     tells _ _
-    (simp
-    (← c .before .before .before .before .before .found-in .ensures, c .before .before .before .found .given .1, c .before .sniffed-from-decoded .ensures, toZ-ofZ {w = w8} {z = decode .«phase_ticks»} (record { sfits = c .struct-told .given .1 .0 .1 })))
+    (simp (
+      ← has-found .before .before .found-in .ensures,
+      has-found .found .given .1,
+      c .before .sniffed-from-decoded .ensures,
+      toZ-ofZ {w = w8} {z = decode .«phase_ticks»} (record { sfits = c .struct-told .given .1 .0 .1 }),
+    ))
 
 pub decode-sniffed-with-phase-spec : {M : Type 1} → statement M
 decode-sniffed-with-phase-spec =

@@ -77,9 +77,15 @@ loop-less c = omega arith
 
 loop-again : tie.Need-loop-again Inv-loop μ-loop
 loop-again c =
-    let samples = c .before .before .before .before .before .args .ev .samples in
-    let grown = byte-≤ (c .before .before .loop .runs) (getD samples (c .before .before .loop .i) 0) in
-    (omega arith, omega arith, rw (c .after-byte .ensures) (omega (arith, grown)), one-more samples _ _ _ _ (omega arith) (c .before .before .loop .inv .3) (c .after-byte .ensures))
+    let head = c .before .before in
+    let samples = head .before .before .before .args .ev .samples in
+    let grown = byte-≤ (head .loop .runs) (getD samples (head .loop .i) 0) in
+    (
+      omega arith,
+      omega arith,
+      rw (c .after-byte .ensures) (omega (arith, grown)),
+      one-more samples _ _ _ _ (omega arith) (head .loop .inv .3) (c .after-byte .ensures),
+    )
 
 returns : tie.Need-returns Inv-loop μ-loop
 returns c = done _ _ _ _ (c .before .before .before .samples-kept .ensures) (c .loop-test .left) (c .before .loop .inv .3)
