@@ -9,6 +9,13 @@ use Rattle.machine.proofs.Holding.{armed-holds-not, holds-first}
 use Rattle.machine.proofs.Core.holds.Statement.{statement}
 use Rattle.machine.proofs.Core.holds.Tie as tie
 
+-- Where a clash was looked for, half-bits are left, and the sender is not armed.
+abbrev unfinished : tie.After-collision-detected → tie.Else2
+unfinished looked = looked .before
+
+abbrev unarmed : tie.After-collision-detected → tie.Else1
+unarmed looked = unfinished looked .before .before
+
 returns : tie.Need-returns
 unfolding txStep
 returns c = simp (on-true (ap not (ne-eqb _ _ (c .if1 .taken))), armed-holds-not)
@@ -25,11 +32,26 @@ collision-detected-requires c κs = search needs
 
 returns-3 : tie.Need-returns-3
 unfolding txStep isHold
-returns-3 c = simp (on-true (c .if3 .taken), ← c .before .collision-detected .ensures, on-false (lt-leb _ _ (c .before .before .if2 .left)), on-false (ap not (eq-eqb _ _ (c .before .before .before .before .if1 .left))))
+returns-3 c =
+    let looked = c .before in
+    simp (
+      on-true (c .if3 .taken),
+      ← looked .collision-detected .ensures,
+      on-false (lt-leb _ _ (unfinished looked .if2 .left)),
+      on-false (ap not (eq-eqb _ _ (unarmed looked .if1 .left))),
+    )
 
 returns-4 : tie.Need-returns-4
 unfolding txStep
-returns-4 c = simp (on-false (c .before .if3 .left), ← c .before .before .collision-detected .ensures, on-false (lt-leb _ _ (c .before .before .before .if2 .left)), on-false (ap not (eq-eqb _ _ (c .before .before .before .before .before .if1 .left))), holds-first)
+returns-4 c =
+    let looked = c .before .before in
+    simp (
+      on-false (c .before .if3 .left),
+      ← looked .collision-detected .ensures,
+      on-false (lt-leb _ _ (unfinished looked .if2 .left)),
+      on-false (ap not (eq-eqb _ _ (unarmed looked .if1 .left))),
+      holds-first,
+    )
 
 pub holds-spec : {M : Type 1} → statement M
 holds-spec =

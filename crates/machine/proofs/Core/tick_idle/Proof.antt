@@ -25,7 +25,14 @@ start-rx-requires c κs = search needs
 
 returns-3 : tie.Need-returns-3
 unfolding idleTick
-returns-3 c = simp (← c .start-rx .ensures, on-false (le-ltb _ _ (c .before .if2 .left)), ← c .before .before .before .debounce .ensures, on-false (c .before .before .before .before .if1 .left))
+returns-3 c =
+    let remembered = c .before .before .before in
+    simp (
+      ← c .start-rx .ensures,
+      on-false (le-ltb _ _ (c .before .if2 .left)),
+      ← remembered .debounce .ensures,
+      on-false (remembered .before .if1 .left),
+    )
 
 pub tick-idle-spec : {M : Type 1} → statement M
 tick-idle-spec =

@@ -8,6 +8,13 @@ use borrow.Author.Needs.{needs}
 use Rattle.machine.proofs.Core.tick_tx.Statement.{statement}
 use Rattle.machine.proofs.Core.tick_tx.Tie as tie
 
+-- Where a clash was looked for, half-bits are left, and the sender is not armed.
+abbrev unfinished : tie.After-collision-detected → tie.Else2
+unfinished looked = looked .before
+
+abbrev unarmed : tie.After-collision-detected → tie.Else1
+unarmed looked = unfinished looked .before .before
+
 tick-tx-armed-requires : tie.Need-tick-tx-armed-requires
 tick-tx-armed-requires c κs = search needs
 
@@ -33,21 +40,51 @@ enter-collision-tx-requires c κs = search needs
 
 returns-3 : tie.Need-returns-3
 unfolding txTick txStep afterStep
-returns-3 c = simp (← c .enter-collision-tx .ensures, on-true (c .before .if3 .taken), ← c .before .before .collision-detected .ensures, on-false (lt-leb _ _ (c .before .before .before .if2 .left)), on-false (ap not (eq-eqb _ _ (c .before .before .before .before .before .if1 .left))))
+returns-3 c =
+    let looked = c .before .before in
+    simp (
+      ← c .enter-collision-tx .ensures,
+      on-true (c .before .if3 .taken),
+      ← looked .collision-detected .ensures,
+      on-false (lt-leb _ _ (unfinished looked .if2 .left)),
+      on-false (ap not (eq-eqb _ _ (unarmed looked .if1 .left))),
+    )
 
 hold-half-bit-requires : tie.Need-hold-half-bit-requires
 hold-half-bit-requires c κs = search needs
 
 returns-4 : tie.Need-returns-4
 unfolding txTick txStep afterStep
-returns-4 c = simp (← c .hold-half-bit .ensures, on-true (ap not (ne-eqb _ _ (c .before .if4 .taken))), on-false (c .before .before .before .if3 .left), ← c .before .before .before .before .collision-detected .ensures, on-false (lt-leb _ _ (c .before .before .before .before .before .if2 .left)), on-false (ap not (eq-eqb _ _ (c .before .before .before .before .before .before .before .if1 .left))))
+returns-4 c =
+    let clear = c .before .before .before in
+    let looked = clear .before in
+    simp (
+      ← c .hold-half-bit .ensures,
+      on-true (ap not (ne-eqb _ _ (c .before .if4 .taken))),
+      on-false (clear .if3 .left),
+      ← looked .collision-detected .ensures,
+      on-false (lt-leb _ _ (unfinished looked .if2 .left)),
+      on-false (ap not (eq-eqb _ _ (unarmed looked .if1 .left))),
+    )
 
 set-bus-idle-requires-2 : tie.Need-set-bus-idle-requires-2
 set-bus-idle-requires-2 c κs = search needs
 
 returns-5 : tie.Need-returns-5
 unfolding txTick txStep afterStep
-returns-5 c = simp (← c .set-bus-idle2 .ensures, on-true (le-leb _ _ (c .before .if5 .taken)), on-false (ap not (eq-eqb _ _ (c .before .before .before .if4 .left))), on-false (c .before .before .before .before .before .if3 .left), ← c .before .before .before .before .before .before .collision-detected .ensures, on-false (lt-leb _ _ (c .before .before .before .before .before .before .before .if2 .left)), on-false (ap not (eq-eqb _ _ (c .before .before .before .before .before .before .before .before .before .if1 .left))))
+returns-5 c =
+    let over = c .before .before .before in
+    let clear = over .before .before in
+    let looked = clear .before in
+    simp (
+      ← c .set-bus-idle2 .ensures,
+      on-true (le-leb _ _ (c .before .if5 .taken)),
+      on-false (ap not (eq-eqb _ _ (over .if4 .left))),
+      on-false (clear .if3 .left),
+      ← looked .collision-detected .ensures,
+      on-false (lt-leb _ _ (unfinished looked .if2 .left)),
+      on-false (ap not (eq-eqb _ _ (unarmed looked .if1 .left))),
+    )
 
 releases-requires : tie.Need-releases-requires
 releases-requires c κs = search needs
@@ -57,7 +94,21 @@ drive-half-bit-requires c κs = search needs
 
 returns-6 : tie.Need-returns-6
 unfolding txTick txStep afterStep
-returns-6 c = simp (← c .drive-half-bit .ensures, ← c .before .releases .ensures, on-false (lt-leb _ _ (c .before .before .if5 .left)), on-false (ap not (eq-eqb _ _ (c .before .before .before .before .if4 .left))), on-false (c .before .before .before .before .before .before .if3 .left), ← c .before .before .before .before .before .before .before .collision-detected .ensures, on-false (lt-leb _ _ (c .before .before .before .before .before .before .before .before .if2 .left)), on-false (ap not (eq-eqb _ _ (c .before .before .before .before .before .before .before .before .before .before .if1 .left))))
+returns-6 c =
+    let stored = c .before .before in
+    let over = stored .before .before in
+    let clear = over .before .before in
+    let looked = clear .before in
+    simp (
+      ← c .drive-half-bit .ensures,
+      ← c .before .releases .ensures,
+      on-false (lt-leb _ _ (stored .if5 .left)),
+      on-false (ap not (eq-eqb _ _ (over .if4 .left))),
+      on-false (clear .if3 .left),
+      ← looked .collision-detected .ensures,
+      on-false (lt-leb _ _ (unfinished looked .if2 .left)),
+      on-false (ap not (eq-eqb _ _ (unarmed looked .if1 .left))),
+    )
 
 pub tick-tx-spec : {M : Type 1} → statement M
 tick-tx-spec =
