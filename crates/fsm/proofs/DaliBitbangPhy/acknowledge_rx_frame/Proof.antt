@@ -19,7 +19,15 @@ with-core-requires c κs = search needs
 
 returns : tie.Need-returns
 unfolding acknowledged
-returns c = simp (on-true (c .before .before .if1 .taken), ← c .before .before .before .is-completed .ensures, ← c .before .before .before .before .rx-state .ensures, ← c .with-core .ensures, ← c .before .in-rx-state .ensures)
+returns c =
+    let asked = c .before .before .before in
+    simp (
+      on-true (c .before .before .if1 .taken),
+      ← asked .is-completed .ensures,
+      ← asked .before .rx-state .ensures,
+      ← c .with-core .ensures,
+      ← c .before .in-rx-state .ensures,
+    )
 
 returns-2 : tie.Need-returns-2
 unfolding acknowledged

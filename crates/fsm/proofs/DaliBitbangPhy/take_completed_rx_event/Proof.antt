@@ -19,7 +19,15 @@ last-rx-event-requires c κs = search needs
 
 returns : tie.Need-returns
 unfolding tookRx pick
-returns c = simp (← c .last-rx-event .ensures, ← c .before .acknowledge-rx-frame .ensures, ← c .before .before .before .is-completed .ensures, ← c .before .before .before .before .rx-state .ensures, c .before .before .if1 .taken)
+returns c =
+    let asked = c .before .before .before in
+    simp (
+      ← c .last-rx-event .ensures,
+      ← c .before .acknowledge-rx-frame .ensures,
+      ← asked .is-completed .ensures,
+      ← asked .before .rx-state .ensures,
+      c .before .before .if1 .taken,
+    )
 
 new-requires : tie.Need-new-requires
 new-requires c κs = search needs
