@@ -10,7 +10,7 @@ use Rattle.laws.proofs.Picked.{cases}
 use Rattle.lengths.specs.declared.BitLengths.{BitLengths}
 use Rattle.window.specs.declared.SampleWindow.{SampleWindow}
 use Rattle.window.specs.declared.PhaseDecode.{PhaseDecode}
-use Rattle.window.specs.Phase.{PhaseBits, held, weighed, bitsOf, decodeOf, phaseOf}
+use Rattle.window.specs.Phase.{PhaseBits, failed, weighed, bitsOf, decodeOf, phaseOf}
 use Rattle.search.specs.declared.Found.{Found}
 use Rattle.search.specs.declared.Found.the-variants.{Decode, Nothing}
 use Rattle.search.specs.declared.SearchAnswer.{SearchAnswer}
@@ -29,7 +29,7 @@ unfolding phaseOf decodeOf
 own-phase w most phase = go (bitsOf w most phase)
   where
     go : (r : PhaseBits) → decodeOf phase r .«phase_ticks» ≡ phase
-    go held = refl
+    go failed = refl
     go (weighed weights) = refl
 
 dropped : {phase : ℤ} (n : ℕ) (phases : List ℤ) → List·Memᴰ phase (drop n phases) → List·Memᴰ phase phases

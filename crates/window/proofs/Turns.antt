@@ -21,7 +21,7 @@ use Rattle.window.specs.declared.PeekAround.{PeekAround}
 use Rattle.window.specs.declared.PhaseRead.{PhaseRead}
 use Rattle.window.specs.declared.PhaseRead.the-variants as read
 use Rattle.window.specs.Window.{sampleBits}
-use Rattle.window.specs.Phase.{peekOf, weightAround, strideOf, strideAround, PhaseBits, held, weighed, after, bitsFrom, scoreOf, dataBit, storedBits}
+use Rattle.window.specs.Phase.{peekOf, weightAround, strideOf, strideAround, PhaseBits, failed, weighed, after, bitsFrom, scoreOf, dataBit, storedBits}
 use Rattle.window.specs.Code.{stopOf, aroundOf, reading, summaryOf, storedOf, pushedOf}
 
 -- ---- the stride
@@ -66,11 +66,11 @@ module _ (w : SampleWindow) (most : ℕ) (phase : ℤ) where
   at-most (suc f) p len h k = rw (on-true (lt-ltb (p + 1) (sampleBits w) h), on-false (lt-leb len most k))
 
   turn : (f p len : ℕ) (a : PeekAround) → a ≡ aroundOf w phase p → p + 1 < sampleBits w → len ≤ most
-      → bitsFrom (suc f) w most phase p len ≡ onStop (a .stop) (weighed []) held (after (a .weightmax) (bitsFrom f w most phase (p + a .pmax) (len + 1)))
+      → bitsFrom (suc f) w most phase p len ≡ onStop (a .stop) (weighed []) failed (after (a .weightmax) (bitsFrom f w most phase (p + a .pmax) (len + 1)))
   unfolding bitsFrom aroundOf
   turn f p len a e h k =
       rw (on-true (lt-ltb (p + 1) (sampleBits w) h), on-true (le-leb len most k), e)
-      (on-stop (peekOf w phase (p + 1)) (weighed []) held (after (weightAround w phase p) (bitsFrom f w most phase (p + strideAround w phase p) (len + 1))))
+      (on-stop (peekOf w phase (p + 1)) (weighed []) failed (after (weightAround w phase p) (bitsFrom f w most phase (p + strideAround w phase p) (len + 1))))
 
 -- ---- what was read so far, with the bits that follow
 pushAll : ℕ → ℕ → List ℕ → ℕ
@@ -78,7 +78,7 @@ pushAll len v [] = v
 pushAll len v (x ∷ xs) = pushAll (len + 1) (pushedOf v len x) xs
 
 pub joined : ℕ → ℕ → ℕ → PhaseBits → PhaseRead
-joined len score v held = read.Held
+joined len score v failed = read.Held
 joined len score v (weighed ws) = read.Bits (reading (len + length ws) (score + scoreOf ws) (pushAll len v ws))
 
 pub joined-none : (len score v : ℕ) → joined len score v (weighed []) ≡ read.Bits (reading len score v)
@@ -87,14 +87,14 @@ joined-none len score v = let e : len + 0 ≡ len = omega arith in let d : score
 
 joined-after : (len score v x : ℕ) (r : PhaseBits) → joined len score v (after x r) ≡ joined (len + 1) (score + x) (pushedOf v len x) r
 unfolding joined scoreOf pushAll
-joined-after len score v x held = refl
+joined-after len score v x failed = refl
 joined-after len score v x (weighed ws) =
     let e : len + suc (length ws) ≡ len + 1 + length ws = omega arith in
     rw (e, ← add-assoc score x (scoreOf ws))
 
 split : (len score v x : ℕ) (rest : PhaseBits) (s : PeekStop)
     → onStop s (read.Bits (reading len score v)) read.Held (joined (len + 1) (score + x) (pushedOf v len x) rest)
-    ≡ joined len score v (onStop s (weighed []) held (after x rest))
+    ≡ joined len score v (onStop s (weighed []) failed (after x rest))
 unfolding joined
 split len score v x rest Idle = sym (joined-none len score v)
 split len score v x rest Held = refl
@@ -113,8 +113,8 @@ pub turned : (w : SampleWindow) (most : ℕ) (phase : ℤ) (p len score v ticks 
 turned w most phase p len score v ticks a s x low e es et h k inv =
     let ef : 73 - len ≡ suc (73 - (len + 1)) = omega arith in
     let rest = bitsFrom (73 - (len + 1)) w most phase (p + a .pmax) (len + 1) in
-    let one : joined len score v (onStop s (weighed []) held (after (a .weightmax) rest)) ≡ x =
-    ap (λ z. joined len score v (onStop z (weighed []) held (after (a .weightmax) rest))) (sym es)
+    let one : joined len score v (onStop s (weighed []) failed (after (a .weightmax) rest)) ≡ x =
+    ap (λ z. joined len score v (onStop z (weighed []) failed (after (a .weightmax) rest))) (sym es)
     ∙ ap (joined len score v) (sym (turn w most phase (73 - (len + 1)) p len a e (omega arith) k))
     ∙ (rw ef at inv) in
     split len score v (a .weightmax) rest s ∙ one
@@ -152,5 +152,5 @@ module _ (all : List ℕ) where
 
 pub joined-all : (r : PhaseBits) → joined 0 0 0 r ≡ summaryOf r
 unfolding joined summaryOf packed
-joined-all held = refl
+joined-all failed = refl
 joined-all (weighed ws) = rw (zero-add (length ws), zero-add (scoreOf ws)) (ap (λ v. read.Bits (reading (length ws) (scoreOf ws) v)) (pushed-all ws ws 0 0 refl (omega arith) refl))

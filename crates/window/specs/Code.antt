@@ -15,7 +15,7 @@ use Rattle.window.specs.declared.Reading.{Reading}
 use Rattle.window.specs.declared.PhaseRead.{PhaseRead}
 use Rattle.window.specs.declared.PhaseRead.the-variants as read
 use Rattle.window.specs.Window.{windowWith, tickAt, peekAt}
-use Rattle.window.specs.Phase.{peekOf, weightAround, strideAround, PhaseBits, held, weighed, scoreOf, storedBits, dataBit}
+use Rattle.window.specs.Phase.{peekOf, weightAround, strideAround, PhaseBits, failed, weighed, scoreOf, storedBits, dataBit}
 
 -- byte k of the window, or `past` if it lies past the pad
 unfoldable pub byteAt : List ℕ → ℕ → ℕ → ℕ → ℕ
@@ -44,7 +44,7 @@ reading len score v = record { «bit_len» = len; score = score; bits = v }
 
 -- what the code keeps of a phase's bits: how many there are, their score, and the stored ones as one number
 unfoldable pub summaryOf : PhaseBits → PhaseRead
-summaryOf held = read.Held
+summaryOf failed = read.Held
 summaryOf (weighed weights) = read.Bits (reading (length weights) (scoreOf weights) (packed 2 (storedBits weights) (dataBit weights)))
 
 -- how many of `len` bits are stored: all but the start bit, 64 at most

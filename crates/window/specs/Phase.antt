@@ -42,14 +42,14 @@ unfoldable pub strideAround : SampleWindow → ℤ → ℕ → ℕ
 strideAround w phase p = strideOf (centre w phase p) (early w phase p) (late w phase p)
 
 -- ---- the bits of a phase
--- What a phase reads: the weights of its bits, the start bit's first, or `held` if it fails.
+-- What a phase reads: the weights of its bits, the start bit's first, or `failed` if it fails.
 pub data PhaseBits : Type 0 where
-  held : PhaseBits
+  failed : PhaseBits
   weighed : List ℕ → PhaseBits
 
 -- One bit in front of the later ones. If the phase fails at a later bit, it has failed.
 abbrev pub after : ℕ → PhaseBits → PhaseBits
-after weight held = held
+after weight failed = failed
 after weight (weighed weights) = weighed (weight ∷ weights)
 
 -- The bits from position p on, after the phase has read `len` bits. It reads one more only if the position after p is below the sample bits and `len`
@@ -61,7 +61,7 @@ bitsFrom (suc left) w most phase p len =
     pick (ltb (p + 1) (sampleBits w))
     (pick (leb len most)
     (pick (eqb (peekOf w phase (p + 1)) 255) (weighed [])
-    (pick (eqb (peekOf w phase (p + 1)) 0) held
+    (pick (eqb (peekOf w phase (p + 1)) 0) failed
     (after (weightAround w phase p) (bitsFrom left w most phase (p + strideAround w phase p) (len + 1)))))
     (weighed []))
     (weighed [])
@@ -98,7 +98,7 @@ dataOf weights = packed 256 8 (dataByte weights)
 
 -- A phase that fails reports length 0, score 0 and no data. Any other reports what it read.
 unfoldable pub decodeOf : ℤ → PhaseBits → PhaseDecode
-decodeOf phase held = record { «bit_len» = 0; «phase_ticks» = phase; score = 0; «data» = 0 }
+decodeOf phase failed = record { «bit_len» = 0; «phase_ticks» = phase; score = 0; «data» = 0 }
 decodeOf phase (weighed weights) =
     record { «bit_len» = lengthOf weights; «phase_ticks» = phase; score = scoreOf weights; «data» = dataOf weights }
 

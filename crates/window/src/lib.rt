@@ -5,7 +5,7 @@ ghost use lib.Dec.{ltb};
 ghost use lib.IntN.{subℕ};
 ghost use Rattle.laws.specs.Pick.{pick};
 ghost use Rattle.window.specs.Window.{windowWith, windowOf, emptyWindow, levelBefore, peekAt};
-ghost use Rattle.window.specs.Phase.{held, decodeOf, phaseOf, bitsOf, strideOf};
+ghost use Rattle.window.specs.Phase.{failed, decodeOf, phaseOf, bitsOf, strideOf};
 ghost use Rattle.window.specs.Constants.{publicConstants};
 ghost use Rattle.window.specs.Code.{byteAt, tenTicks, peeksOf, stopOf, aroundOf, summaryOf, storedOf, pushedOf, placedOf};
 
@@ -87,7 +87,7 @@ pub struct PhaseDecode {
 
 impl PhaseDecode {
     fn failed(phase_ticks: i8) -> PhaseDecode
-        ensures { λ r. ⌜ r ≡ decodeOf «phase_ticks» held ⌝ }
+        ensures { λ r. ⌜ r ≡ decodeOf «phase_ticks» failed ⌝ }
     {
         PhaseDecode {
             bit_len: 0,

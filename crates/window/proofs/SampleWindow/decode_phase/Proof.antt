@@ -14,7 +14,7 @@ use Rattle.window.specs.declared.Reading.{Reading}
 use Rattle.window.specs.declared.PhaseDecode.{PhaseDecode}
 use Rattle.window.specs.declared.PhaseRead.{PhaseRead}
 use Rattle.window.specs.declared.PhaseRead.the-variants as read
-use Rattle.window.specs.Phase.{PhaseBits, held, weighed, bitsOf, lengthOf, dataBit, storedBits, dataOf, decodeOf, phaseOf}
+use Rattle.window.specs.Phase.{PhaseBits, failed, weighed, bitsOf, lengthOf, dataBit, storedBits, dataOf, decodeOf, phaseOf}
 use Rattle.window.specs.Code.{summaryOf, storedOf, placedOf}
 use Rattle.window.proofs.Bytes.{placed-is}
 use Rattle.window.proofs.SampleWindow.decode_phase.Statement.{statement}
@@ -31,7 +31,7 @@ bit ws i = omega arith
 
 fits : (r : PhaseBits) (x : Reading) → read.Bits x ≡ summaryOf r → x .bits < 2 ^ storedOf (x .«bit_len»)
 unfolding summaryOf
-fits held x e = clash x e
+fits failed x e = clash x e
 fits (weighed ws) x e = rw (same x _ e) (packed-lt 2 (storedBits ws) (dataBit ws) (λ i h. bit ws i))
 
 abbrev made : ℕ → ℤ → ℕ → ℕ → PhaseDecode
@@ -45,12 +45,12 @@ module _ (w : SampleWindow) (most : ℕ) (phase z : ℤ) (same-phase : z ≡ pha
   at-phase : {x : PhaseRead} → x ≡ summaryOf (bitsOf w most (subℕ bias 128)) → x ≡ summaryOf here
   at-phase h = h ∙ ap (λ p. summaryOf (bitsOf w most p)) (moved ∙ same-phase)
 
-  none : read.Held ≡ summaryOf (bitsOf w most (subℕ bias 128)) → decodeOf z held ≡ phaseOf w most phase
+  none : read.Held ≡ summaryOf (bitsOf w most (subℕ bias 128)) → decodeOf z failed ≡ phaseOf w most phase
   unfolding phaseOf summaryOf
   none h = rw same-phase (go here (at-phase h))
     where
-      go : (r : PhaseBits) → read.Held ≡ summaryOf r → decodeOf phase held ≡ decodeOf phase r
-      go held h = refl
+      go : (r : PhaseBits) → read.Held ≡ summaryOf r → decodeOf phase failed ≡ decodeOf phase r
+      go failed h = refl
       go (weighed ws) h = clash _ (sym h)
 
   some : (x : Reading) {len n d : ℕ} → read.Bits x ≡ summaryOf (bitsOf w most (subℕ bias 128))
@@ -60,7 +60,7 @@ module _ (w : SampleWindow) (most : ℕ) (phase z : ℤ) (same-phase : z ≡ pha
   some x {len} {n} {d} h el en ed = rw same-phase (go here (at-phase h))
     where
       go : (r : PhaseBits) → read.Bits x ≡ summaryOf r → made len phase (x .score) d ≡ decodeOf phase r
-      go held h = clash x h
+      go failed h = clash x h
       go (weighed ws) h = rw (ed, en, el, same x _ h, placed-is (storedBits ws) (dataBit ws) (omega arith) (bit ws))
 
 from-earliest-requires : tie.Need-from-earliest-requires
