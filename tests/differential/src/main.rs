@@ -1,56 +1,79 @@
 //! The Rust side of the differential runs: answers the call protocol and the bench reader's books over the
 //! unchanged Rust, makes scripts and books, and compares another program's answers with the Rust's.
 
-mod answer;
-mod book_runs;
-mod books;
-mod captures;
-mod command;
-mod compare;
-mod coverage;
-mod damage;
-mod day;
-mod demand;
-mod demand_lines;
-mod edges;
-mod encoder;
-mod frame_lines;
-mod frames;
-mod generate;
-mod levels;
-mod line;
-mod line_coverage;
-mod line_lines;
-mod lines;
-mod original;
-mod others;
-mod pairs;
-mod pipe;
-mod program;
+/// What the port is compared with: the unchanged files, what stands for the rest of their crate, and hosts for them.
+mod rust {
+    pub mod encoder;
+    pub mod line;
+    pub mod original;
+    pub mod shims;
+    pub mod station;
+}
+/// The call protocol: its commands as lines, and the answers to them.
+mod protocol {
+    pub mod answer;
+    pub mod command;
+    pub mod levels;
+}
+/// Scripts at random, and what they reach.
+mod scripts {
+    pub mod captures;
+    pub mod coverage;
+    pub mod generate;
+    pub mod line_coverage;
+    pub mod line_lines;
+    pub mod others;
+    pub mod pairs;
+    pub mod station_lines;
+}
+/// What document 01 demands of whole frames and of senders on one line, stated without a station.
+mod demands {
+    pub mod demand;
+    pub mod demand_lines;
+    pub mod frame_lines;
+    pub mod frames;
+    pub mod lines;
+    pub mod stated;
+}
+/// The bench reader's books.
+mod books {
+    pub mod book_runs;
+    pub mod books;
+    pub mod damage;
+    pub mod day;
+    pub mod edges;
+    pub mod reader;
+    pub mod uneven;
+}
+/// Running another program and telling how its answers differ.
+mod runs {
+    pub mod compare;
+    pub mod pipe;
+    pub mod program;
+    pub mod shrink;
+}
 mod random;
-mod reader;
-mod shims;
-mod shrink;
-mod stated;
-mod station;
-mod station_lines;
 mod stored;
 mod stored_encoder;
 mod stored_line;
 mod stored_readings;
 mod stored_station;
-mod uneven;
 
 // The unchanged files name each other from the crate's root.
-use original::{fsm, manchester, phy};
-use shims::{halfbits, platform};
+use rust::original::{fsm, manchester, phy};
+use rust::shims::{halfbits, platform};
 
 use std::io::{self, BufRead, BufWriter, Write};
 use std::path::Path;
 use std::process::ExitCode;
 
-use books::Book;
-use generate::{Generator, Kind};
+use books::books::Book;
+use books::{book_runs, day, edges, reader, uneven};
+use demands::{frames, lines};
+use protocol::answer;
+use runs::compare;
+use scripts::coverage;
+use scripts::generate::{Generator, Kind};
 
 const USAGE: &str = "usage:
   differential answer                                 answers the protocol on standard input
@@ -158,7 +181,7 @@ fn run(words: &[String]) -> Result<bool, String> {
         }
         "long" => {
             options.allow(&[])?;
-            quiet_on_closed_pipe(io::stdout().lock().write_all(&books::long_book()))
+            quiet_on_closed_pipe(io::stdout().lock().write_all(&books::books::long_book()))
         }
         "books" => {
             options.allow(&["--reader", "--lines", "--seed", "--cuts", "--batch"])?;
@@ -336,9 +359,9 @@ impl<'a> Options<'a> {
         Self::positive("--lines", self.text("--lines")?)
     }
 
-    fn book_kind(&self) -> Result<books::Kind, String> {
+    fn book_kind(&self) -> Result<books::books::Kind, String> {
         let name = self.text("--kind")?;
-        books::Kind::named(name).ok_or(format!("--kind {name}: no such kind"))
+        books::books::Kind::named(name).ok_or(format!("--kind {name}: no such kind"))
     }
 
     fn number_or(&self, name: &str, usual: u64) -> Result<u64, String> {

@@ -2,10 +2,12 @@
 
 use std::ops::Range;
 
-use crate::captures::{any_capture, bits_of, fast_capture, frame_capture, samples_capture};
-use crate::command::{Capture, Command, Rank, LONGEST_LINE};
-use crate::generate::{spoiled_in_way, ticks_line, Generator, Kind, SPOILED_WAYS};
+use crate::protocol::command::{Capture, Command, Rank, LONGEST_LINE};
 use crate::random::Random;
+use crate::scripts::captures::{
+    any_capture, bits_of, fast_capture, frame_capture, samples_capture,
+};
+use crate::scripts::generate::{spoiled_in_way, ticks_line, Generator, Kind, SPOILED_WAYS};
 use crate::{stored_encoder, stored_line, stored_readings, stored_station};
 
 const SEED: u64 = 62386;

@@ -1,9 +1,9 @@
 //! The stored script's examples and edges of the encoder.
 
-use crate::command::{Command, LONGEST_LINE};
-use crate::encoder::{Frame, FRAME_BYTES};
-use crate::frame_lines::FrameLines;
-use crate::generate::most_buffer_bytes;
+use crate::demands::frame_lines::FrameLines;
+use crate::protocol::command::{Command, LONGEST_LINE};
+use crate::rust::encoder::{Frame, FRAME_BYTES};
+use crate::scripts::generate::most_buffer_bytes;
 
 type Lines = Vec<Vec<u8>>;
 

@@ -1,15 +1,15 @@
 //! The stored script's examples and edges of the line.
 
-use crate::command::{Command, MOST_TICKS};
-use crate::demand::DEMANDED_TICKS;
-use crate::encoder::half_bits_of;
+use crate::demands::demand::DEMANDED_TICKS;
 use crate::fsm::CollisionPolicy;
-use crate::generate::{spoiled_in_way, SPOILED_WAYS};
-use crate::levels::{HIGH, LOW};
-use crate::line::MOST_STATIONS;
+use crate::protocol::command::{Command, MOST_TICKS};
+use crate::protocol::levels::{HIGH, LOW};
 use crate::random::Random;
-use crate::station::{Call, HalfBits, Start, HALF_BIT_BYTES};
-use crate::station_lines::POLICIES;
+use crate::rust::encoder::half_bits_of;
+use crate::rust::line::MOST_STATIONS;
+use crate::rust::station::{Call, HalfBits, Start, HALF_BIT_BYTES};
+use crate::scripts::generate::{spoiled_in_way, SPOILED_WAYS};
+use crate::scripts::station_lines::POLICIES;
 
 type Lines = Vec<Vec<u8>>;
 

@@ -2,9 +2,9 @@
 
 use std::ops::Range;
 
-use crate::captures::{bits_of, frame_capture, low_capture, TICKS};
-use crate::command::{Capture, Command, Rank};
 use crate::manchester::DECODED_BYTES;
+use crate::protocol::command::{Capture, Command, Rank};
+use crate::scripts::captures::{bits_of, frame_capture, low_capture, TICKS};
 use crate::stored::{wave, whole, AT_PHASE_0_ALONE, NINE_BITS, TWO_RUNS_OFF};
 
 type Lines = Vec<Vec<u8>>;

@@ -1,12 +1,12 @@
 //! The stored script's examples and edges of the station.
 
-use crate::captures::{bits_of, exact_wave};
-use crate::command::{Command, MOST_TICKS};
-use crate::encoder::half_bits_of;
 use crate::fsm::CollisionPolicy;
-use crate::levels::{Levels, HIGH, LOW};
-use crate::station::{Call, HalfBits, Start, Station, HALF_BIT_BYTES};
-use crate::station_lines::POLICIES;
+use crate::protocol::command::{Command, MOST_TICKS};
+use crate::protocol::levels::{Levels, HIGH, LOW};
+use crate::rust::encoder::half_bits_of;
+use crate::rust::station::{Call, HalfBits, Start, Station, HALF_BIT_BYTES};
+use crate::scripts::captures::{bits_of, exact_wave};
+use crate::scripts::station_lines::POLICIES;
 
 type Lines = Vec<Vec<u8>>;
 type Runs<'a> = &'a [(bool, usize)];

@@ -2,6 +2,7 @@
 //! anything in their fields. docs/DIFFERENCES.md names the values on which the two may part; on any other a difference ends the run.
 
 mod random;
+#[path = "rust/shims.rs"]
 mod shims;
 
 // The unchanged files name these from the crate's root.
@@ -208,7 +209,9 @@ mod port {
 
         pub fn samples(bytes: [u8; 64]) -> Samples {
             let written = bytes.iter().enumerate();
-            written.fold(Samples::new(), |samples, (at, byte)| samples.with_byte(at, *byte))
+            written.fold(Samples::new(), |samples, (at, byte)| {
+                samples.with_byte(at, *byte)
+            })
         }
     }
 

@@ -4,11 +4,11 @@
 use std::iter::repeat_n;
 use std::ops::Range;
 
-use crate::command::{Capture, SAMPLES};
-use crate::encoder::HALF_BIT_TICKS;
-use crate::levels::HIGH;
+use crate::protocol::command::{Capture, SAMPLES};
+use crate::protocol::levels::HIGH;
 use crate::random::Random;
-use crate::station::Station;
+use crate::rust::encoder::HALF_BIT_TICKS;
+use crate::rust::station::Station;
 
 pub const TICKS: usize = 8 * SAMPLES;
 /// A station ends a capture on this many high ticks running.

@@ -4,12 +4,12 @@ use std::cell::Cell;
 use std::rc::Rc;
 use std::sync::atomic::Ordering;
 
-use crate::command::Command;
 use crate::fsm::{
     BusState, CollisionPolicy, DaliBitbangPhy, RxCompletedEvent, RxState, TxPollResult,
 };
 use crate::halfbits::HalfBitBuffer;
 use crate::platform::hal::BitbangHal;
+use crate::protocol::command::Command;
 
 pub const HALF_BIT_BYTES: usize = HalfBitBuffer::DATA_LEN;
 pub const MOST_HALF_BITS: u8 = HalfBitBuffer::MAX_DATA_HALF_BITS;

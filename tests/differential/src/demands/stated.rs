@@ -1,7 +1,7 @@
 //! Answers that are stated in part, as text: `*` in the place of a field stands for any, at the end of one for what comes after its
 //! beginning, and `...` for any fields that are left. An answer of which nothing is stated has an empty line.
 
-use crate::program::Difference;
+use crate::runs::program::Difference;
 
 /// The first line that doesn't fit what is stated of it. Both texts have as many lines.
 pub fn first_unfit(stated: &[u8], told: &[u8]) -> Option<Difference> {

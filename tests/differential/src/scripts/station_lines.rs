@@ -3,13 +3,13 @@
 
 use std::collections::VecDeque;
 
-use crate::command::{Command, MOST_TICKS};
-use crate::encoder::half_bits_of;
 use crate::fsm::{BusState, CollisionPolicy, RxState};
-use crate::levels::{Levels, HIGH, LOW};
-use crate::others::{any_frame, Mood, Others};
+use crate::protocol::command::{Command, MOST_TICKS};
+use crate::protocol::levels::{Levels, HIGH, LOW};
 use crate::random::Random;
-use crate::station::{Call, HalfBits, Start, Station, MOST_HALF_BITS};
+use crate::rust::encoder::half_bits_of;
+use crate::rust::station::{Call, HalfBits, Start, Station, MOST_HALF_BITS};
+use crate::scripts::others::{any_frame, Mood, Others};
 
 pub const POLICIES: [CollisionPolicy; 3] = [
     CollisionPolicy::Auto,

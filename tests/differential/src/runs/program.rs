@@ -5,7 +5,7 @@ use std::process::{Child, ChildStdin, ChildStdout, Command as Process, ExitStatu
 use std::sync::Arc;
 use std::thread::{self, JoinHandle};
 
-use crate::pipe::wait_until_taken;
+use crate::runs::pipe::wait_until_taken;
 
 const PAST_EXPECTED: usize = 4096;
 

@@ -4,11 +4,13 @@ use std::io;
 use std::process::Stdio;
 use std::sync::Arc;
 
-use crate::answer::{answers, Session};
-use crate::command::{is_of_encoder, is_of_line, is_of_station, is_reading, Command, NAMES};
-use crate::generate::{Generator, Kind};
-use crate::program::{first_difference, printable, Difference, Run};
-use crate::shrink;
+use crate::protocol::answer::{answers, Session};
+use crate::protocol::command::{
+    is_of_encoder, is_of_line, is_of_station, is_reading, Command, NAMES,
+};
+use crate::runs::program::{first_difference, printable, Difference, Run};
+use crate::runs::shrink;
+use crate::scripts::generate::{Generator, Kind};
 
 pub struct Task {
     pub program: String,

@@ -2,16 +2,16 @@
 
 use std::collections::VecDeque;
 
-use crate::captures::{answer_capture, any_capture, low_run_capture};
-use crate::command::{
+use crate::manchester::PhaseDecode;
+use crate::protocol::command::{
     is_of_encoder, is_of_line, is_reading, push_byte_string_field, push_number_field, Command,
     Rank, LONGEST_LINE, MOST_TICKS, NAMES,
 };
-use crate::encoder::{Frame, FRAME_BYTES};
-use crate::line_lines::LineLines;
-use crate::manchester::PhaseDecode;
 use crate::random::Random;
-use crate::station_lines::{any_gate, any_settle, Pace, StationLines};
+use crate::rust::encoder::{Frame, FRAME_BYTES};
+use crate::scripts::captures::{answer_capture, any_capture, low_run_capture};
+use crate::scripts::line_lines::LineLines;
+use crate::scripts::station_lines::{any_gate, any_settle, Pace, StationLines};
 
 const BAD_LINE_IN: usize = 100;
 const SNIFFED: u32 = 1 << 8 | 1 << 16 | 1 << 24;

@@ -1,9 +1,9 @@
 //! The situations into which a script's commands bring a line and its stations.
 
-use crate::answer::Session;
-use crate::command::Command;
-use crate::coverage::{brief, change, moment};
-use crate::station::Call;
+use crate::protocol::answer::Session;
+use crate::protocol::command::Command;
+use crate::rust::station::Call;
+use crate::scripts::coverage::{brief, change, moment};
 
 pub struct LineCoverage {
     session: Session,

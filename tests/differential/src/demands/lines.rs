@@ -5,13 +5,13 @@ use std::process::Stdio;
 use std::sync::Arc;
 use std::time::Instant;
 
-use crate::answer::answers;
-use crate::command::push_hex;
-use crate::compare::look_for_smallest;
-use crate::demand_lines::{DemandLines, Figures};
-use crate::program::{first_difference, print_difference, printable, Difference, Run};
+use crate::demands::demand_lines::{DemandLines, Figures};
+use crate::demands::stated::{first_unfit, is_stated};
+use crate::protocol::answer::answers;
+use crate::protocol::command::push_hex;
 use crate::random::Random;
-use crate::stated::{first_unfit, is_stated};
+use crate::runs::compare::look_for_smallest;
+use crate::runs::program::{first_difference, print_difference, printable, Difference, Run};
 
 pub struct Task {
     pub program: String,

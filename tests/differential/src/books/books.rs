@@ -3,16 +3,16 @@
 
 use std::io::{self, Write};
 
-use crate::captures::{
+use crate::books::damage::{any_bad_line, damage};
+use crate::demands::demand::Clash;
+use crate::protocol::command::{push_hex, push_number, Capture, SAMPLES};
+use crate::random::Random;
+use crate::rust::encoder::half_bits_of;
+use crate::scripts::captures::{
     any_capture, frame_capture, heard, held_capture, jittered_capture, noise_capture,
     samples_capture, TICKS,
 };
-use crate::command::{push_hex, push_number, Capture, SAMPLES};
-use crate::damage::{any_bad_line, damage};
-use crate::demand::Clash;
-use crate::encoder::half_bits_of;
-use crate::pairs::any_pair;
-use crate::random::Random;
+use crate::scripts::pairs::any_pair;
 
 #[derive(Clone, Copy, PartialEq, Eq)]
 pub enum Kind {

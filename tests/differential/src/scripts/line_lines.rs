@@ -3,16 +3,16 @@
 
 use std::collections::VecDeque;
 
-use crate::command::{Command, MOST_TICKS};
-use crate::encoder::half_bits_of;
 use crate::fsm::BusState;
-use crate::levels::LOW;
-use crate::line::{BenchLine, MOST_STATIONS};
-use crate::others::any_frame;
-use crate::pairs::any_pair;
+use crate::protocol::command::{Command, MOST_TICKS};
+use crate::protocol::levels::LOW;
 use crate::random::Random;
-use crate::station::{Call, HalfBits, Start, HALF_BIT_BYTES};
-use crate::station_lines::{any_half_bits, any_start, POLICIES};
+use crate::rust::encoder::half_bits_of;
+use crate::rust::line::{BenchLine, MOST_STATIONS};
+use crate::rust::station::{Call, HalfBits, Start, HALF_BIT_BYTES};
+use crate::scripts::others::any_frame;
+use crate::scripts::pairs::any_pair;
+use crate::scripts::station_lines::{any_half_bits, any_start, POLICIES};
 
 pub struct LineLines {
     line: BenchLine,

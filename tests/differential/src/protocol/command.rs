@@ -1,10 +1,10 @@
 //! The protocol's commands as values: read from a line, and written as one.
 
-use crate::encoder::{Frame, FRAME_BYTES};
 use crate::fsm::CollisionPolicy;
-use crate::levels::Levels;
 use crate::manchester::{PhaseDecode, DECODED_BYTES};
-use crate::station::{Call, HalfBits, Start};
+use crate::protocol::levels::Levels;
+use crate::rust::encoder::{Frame, FRAME_BYTES};
+use crate::rust::station::{Call, HalfBits, Start};
 
 pub const LONGEST_LINE: usize = 2047;
 pub const SAMPLES: usize = 64;

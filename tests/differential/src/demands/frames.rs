@@ -6,14 +6,14 @@ use std::process::Stdio;
 use std::sync::Arc;
 use std::time::Instant;
 
-use crate::answer::answers;
-use crate::command::push_hex;
-use crate::compare::look_for_smallest;
-use crate::frame_lines::FrameLines;
-use crate::program::{
+use crate::demands::frame_lines::FrameLines;
+use crate::protocol::answer::answers;
+use crate::protocol::command::push_hex;
+use crate::random::Random;
+use crate::runs::compare::look_for_smallest;
+use crate::runs::program::{
     first_difference, first_other_line, print_difference, printable, Difference, Run,
 };
-use crate::random::Random;
 
 const FRAMES_OF_24_BITS: usize = 100_000;
 

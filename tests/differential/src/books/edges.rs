@@ -1,9 +1,9 @@
 //! The book of edge lines: each of the reader's rules from both of its sides, with good lines between them. Its last line has no LF.
 
-use crate::captures::{bits_of, frame_capture};
+use crate::scripts::captures::{bits_of, frame_capture};
 
-use crate::books::push_record;
-use crate::reader::MOST_BYTES;
+use crate::books::books::push_record;
+use crate::books::reader::MOST_BYTES;
 
 /// Document 01's printed case.
 const PRINTED: [&[u8]; 4] = [

@@ -6,11 +6,11 @@ use std::process::Stdio;
 use std::sync::Arc;
 use std::time::Instant;
 
-use crate::books::{Book, Kind};
-use crate::edges;
-use crate::program::{first_difference, printable, Difference, Run};
+use crate::books::books::{Book, Kind};
+use crate::books::edges;
+use crate::books::reader::{answers, MOST_LINES};
 use crate::random::Random;
-use crate::reader::{answers, MOST_LINES};
+use crate::runs::program::{first_difference, printable, Difference, Run};
 
 /// The edge book comes in pieces of so many bytes, too: about a line's greatest length, and about what a program may read at once.
 const PIECES: [usize; 10] = [1, 2, 3, 7, 64, 139, 140, 141, 142, 1023];

@@ -2,11 +2,11 @@
 
 use std::collections::VecDeque;
 
-use crate::captures::{any_wave, bits_of, exact_wave};
-use crate::encoder::HALF_BIT_TICKS;
-use crate::levels::{HIGH, LOW};
+use crate::protocol::levels::{HIGH, LOW};
 use crate::random::Random;
-use crate::station::HalfBits;
+use crate::rust::encoder::HALF_BIT_TICKS;
+use crate::rust::station::HalfBits;
+use crate::scripts::captures::{any_wave, bits_of, exact_wave};
 
 /// What comes when the planned runs are used up.
 #[derive(Clone, Copy, PartialEq, Eq)]

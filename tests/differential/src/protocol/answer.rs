@@ -1,20 +1,20 @@
 //! The protocol answered over the unchanged Rust, and the encoder's commands over our own.
 
-use crate::command::{
-    push_byte_string_field, push_decode, push_hex_field, push_number, push_number_field, Capture,
-    Command, Rank,
-};
-use crate::encoder::Frame;
 use crate::fsm::{
     restart_gate_for, settle_ticks_on_wire, BusState, RxCompletedEvent, RxState, TxPollResult,
 };
-use crate::line::BenchLine;
 use crate::manchester::{
     is_better_decode, sample_weight, BestPhaseSearch, BitLengths, IsrDecode, PhaseDecode,
     PhaseSearch, SampleWindow, DECODED_BYTES,
 };
-use crate::original::rx_decode::{RxDecode, SniffedDecode, SniffedFrame};
-use crate::station::{Call, HalfBits, Station};
+use crate::protocol::command::{
+    push_byte_string_field, push_decode, push_hex_field, push_number, push_number_field, Capture,
+    Command, Rank,
+};
+use crate::rust::encoder::Frame;
+use crate::rust::line::BenchLine;
+use crate::rust::original::rx_decode::{RxDecode, SniffedDecode, SniffedFrame};
+use crate::rust::station::{Call, HalfBits, Station};
 
 const BAD_LINE: &[u8] = b"?";
 const MOST_STEPS: u8 = 5;

@@ -2,14 +2,14 @@
 
 use std::iter::{once, repeat_n};
 
-use crate::answer::push_half_bits;
-use crate::captures::{bits_of, IDLE_TICKS};
-use crate::command::{
+use crate::protocol::answer::push_half_bits;
+use crate::protocol::command::{
     push_byte_string_field, push_hex_field, push_number_field, Capture, Command, SAMPLES,
 };
-use crate::encoder::{half_bits_of, wave, Frame, HALF_BIT_TICKS};
-use crate::levels::{Levels, HIGH, LOW};
-use crate::station::{Call, Start};
+use crate::protocol::levels::{Levels, HIGH, LOW};
+use crate::rust::encoder::{half_bits_of, wave, Frame, HALF_BIT_TICKS};
+use crate::rust::station::{Call, Start};
+use crate::scripts::captures::{bits_of, IDLE_TICKS};
 
 pub const ARMED_TICKS: usize = 3;
 /// The last of the four released half-bits lasts one tick, and on the tick after it the station is Idle.

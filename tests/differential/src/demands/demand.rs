@@ -3,11 +3,11 @@
 
 use std::iter::repeat_n;
 
-use crate::captures::IDLE_TICKS;
-use crate::encoder::{half_bits_of, wave, HALF_BIT_TICKS};
-use crate::frame_lines::ARMED_TICKS;
-use crate::levels::{Levels, HIGH, LOW};
-use crate::station::HalfBits;
+use crate::demands::frame_lines::ARMED_TICKS;
+use crate::protocol::levels::{Levels, HIGH, LOW};
+use crate::rust::encoder::{half_bits_of, wave, HALF_BIT_TICKS};
+use crate::rust::station::HalfBits;
+use crate::scripts::captures::IDLE_TICKS;
 
 /// When the demand's answers are owed.
 pub const DEMANDED_TICKS: usize = 230;

@@ -3,9 +3,9 @@
 
 use std::iter::repeat_n;
 
-use crate::captures::bits_of;
-use crate::levels::{Levels, HIGH, LOW};
-use crate::station::{HalfBits, HALF_BIT_BYTES};
+use crate::protocol::levels::{Levels, HIGH, LOW};
+use crate::rust::station::{HalfBits, HALF_BIT_BYTES};
+use crate::scripts::captures::bits_of;
 
 pub const HALF_BIT_TICKS: usize = 4;
 const RELEASED_HALF_BITS: usize = 4;

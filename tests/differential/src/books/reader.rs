@@ -3,7 +3,7 @@
 use std::io::{self, BufRead, BufReader, BufWriter, Read, Write};
 
 use crate::fsm::RxCompletedEvent;
-use crate::original::rx_decode::{RxDecode, SniffedFrame};
+use crate::rust::original::rx_decode::{RxDecode, SniffedFrame};
 
 /// Later lines are neither read nor counted.
 pub const MOST_LINES: u32 = 999_999;

@@ -1,9 +1,9 @@
 //! Document 01's bench line: one to four of the unchanged Rust's stations on one wire, which nothing else pulls.
 
-use crate::command::Command;
 use crate::fsm::BusState;
-use crate::levels::{Levels, HIGH};
-use crate::station::Station;
+use crate::protocol::command::Command;
+use crate::protocol::levels::{Levels, HIGH};
+use crate::rust::station::Station;
 
 pub const MOST_STATIONS: u8 = 4;
 

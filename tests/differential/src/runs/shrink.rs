@@ -2,10 +2,10 @@
 
 use std::ops::Range;
 
-use crate::command::{is_of_line, is_of_station, Capture, Command, MOST_TICKS, SAMPLES};
-use crate::levels::{Levels, HIGH, LOW};
-use crate::line::MOST_STATIONS;
-use crate::station::Call;
+use crate::protocol::command::{is_of_line, is_of_station, Capture, Command, MOST_TICKS, SAMPLES};
+use crate::protocol::levels::{Levels, HIGH, LOW};
+use crate::rust::line::MOST_STATIONS;
+use crate::rust::station::Call;
 
 type Script = Vec<Vec<u8>>;
 

@@ -7,17 +7,17 @@ use std::process::Stdio;
 use std::sync::Arc;
 use std::time::Instant;
 
-use crate::book_runs::report;
-use crate::books::push_record;
-use crate::captures::{bits_of, exact_wave, IDLE_TICKS};
-use crate::command::Capture;
+use crate::books::book_runs::report;
+use crate::books::books::push_record;
+use crate::books::reader::answers;
 use crate::fsm::RxCompletedEvent;
-use crate::levels::HIGH;
-use crate::original::rx_decode::{RxDecode, SniffedDecode, SniffedFrame};
-use crate::program::{first_difference, Run};
+use crate::protocol::command::Capture;
+use crate::protocol::levels::HIGH;
 use crate::random::Random;
-use crate::reader::answers;
-use crate::station::Station;
+use crate::runs::program::{first_difference, Run};
+use crate::rust::original::rx_decode::{RxDecode, SniffedDecode, SniffedFrame};
+use crate::rust::station::Station;
+use crate::scripts::captures::{bits_of, exact_wave, IDLE_TICKS};
 
 /// The high ticks before each wave, beside those that ended the capture before it.
 const QUIET_TICKS: usize = 8;

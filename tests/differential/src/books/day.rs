@@ -2,12 +2,12 @@
 
 use std::iter::repeat_n;
 
-use crate::books::{clash, push_record};
-use crate::captures::{
+use crate::books::books::{clash, push_record};
+use crate::protocol::command::Capture;
+use crate::random::Random;
+use crate::scripts::captures::{
     bits_of, frame_capture, heard, held_capture, jittered_capture, samples_capture,
 };
-use crate::command::Capture;
-use crate::random::Random;
 
 const SEED: u64 = 104;
 

@@ -1,19 +1,19 @@
 //! Runs of demand 3 on a line, one after the other, as lines, with what the demand states of their answers.
 
-use crate::command::{
+use crate::demands::demand::{Clash, Sent, DEMANDED_TICKS};
+use crate::demands::frame_lines::reading;
+use crate::fsm::{CollisionPolicy, RxState};
+use crate::protocol::command::{
     push_byte_string_field, push_hex_field, push_number_field, Capture, Command, MOST_TICKS,
 };
-use crate::demand::{Clash, Sent, DEMANDED_TICKS};
-use crate::frame_lines::reading;
-use crate::fsm::{CollisionPolicy, RxState};
-use crate::levels::Levels;
-use crate::line::{BenchLine, MOST_STATIONS};
-use crate::line_lines::brief_pull;
-use crate::others::any_frame;
-use crate::pairs::any_pair;
+use crate::protocol::levels::Levels;
 use crate::random::Random;
-use crate::station::{Call, HalfBits, Start, HALF_BIT_BYTES};
-use crate::station_lines::{any_half_bits, POLICIES};
+use crate::rust::line::{BenchLine, MOST_STATIONS};
+use crate::rust::station::{Call, HalfBits, Start, HALF_BIT_BYTES};
+use crate::scripts::line_lines::brief_pull;
+use crate::scripts::others::any_frame;
+use crate::scripts::pairs::any_pair;
+use crate::scripts::station_lines::{any_half_bits, POLICIES};
 
 const WATCHING: [CollisionPolicy; 2] = [CollisionPolicy::Auto, CollisionPolicy::On];
 /// Stands for what the demand says of an answer of which it says nothing.

@@ -1,10 +1,10 @@
 //! What spoils a line of a book: each edit here aims at one of the reader's four refusals or at the edge of one, and the line may
 //! come through it good. None brings an LF in.
 
-use crate::captures::frame_capture;
 use crate::random::Random;
+use crate::scripts::captures::frame_capture;
 
-use crate::books::push_record;
+use crate::books::books::push_record;
 
 /// Numbers that aren't one, or that are out of range, some of them by what an overflow would leave in it.
 const WRONG_NUMBERS: [&[u8]; 28] = [

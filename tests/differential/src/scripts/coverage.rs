@@ -3,12 +3,12 @@
 use std::cmp::Ordering;
 use std::collections::BTreeMap;
 
-use crate::answer::{bus_word, Session};
-use crate::command::{is_of_encoder, is_of_line, is_of_station, Command};
 use crate::fsm::BusState;
-use crate::generate::Generator;
-use crate::line_coverage::LineCoverage;
-use crate::station::{Call, Station, HALF_BIT_BYTES};
+use crate::protocol::answer::{bus_word, Session};
+use crate::protocol::command::{is_of_encoder, is_of_line, is_of_station, Command};
+use crate::rust::station::{Call, Station, HALF_BIT_BYTES};
+use crate::scripts::generate::Generator;
+use crate::scripts::line_coverage::LineCoverage;
 
 /// One situation a line, with how often it came.
 pub fn table(generator: &mut Generator, lines: usize) -> String {
