@@ -15,12 +15,10 @@ mod protocol {
     pub mod command;
     pub mod levels;
 }
-/// Scripts at random, and what they reach.
+/// Scripts at random.
 mod scripts {
     pub mod captures;
-    pub mod coverage;
     pub mod generate;
-    pub mod line_coverage;
     pub mod line_lines;
     pub mod others;
     pub mod pairs;
@@ -72,14 +70,11 @@ use books::{book_runs, day, edges, reader, uneven};
 use demands::{frames, lines};
 use protocol::answer;
 use runs::compare;
-use scripts::coverage;
 use scripts::generate::{Generator, Kind};
 
 const USAGE: &str = "usage:
   differential answer                                 answers the protocol on standard input
   differential generate --seed S --commands N [--only KIND]
-  differential coverage --seed S --commands N [--only KIND]
-                                                      counts where a script brings a station, a line and the encoder
   differential compare --calls PROGRAM --seed S --commands N [--only KIND] [--batch B]
   differential frames --calls PROGRAM [--seed S] [--batch B]
                                                       whole frames, B of them to a run of the program
@@ -131,12 +126,6 @@ fn run(words: &[String]) -> Result<bool, String> {
         "generate" => {
             options.allow(&["--seed", "--commands", "--only"])?;
             quiet_on_closed_pipe(generate(&options)?)
-        }
-        "coverage" => {
-            options.allow(&["--seed", "--commands", "--only"])?;
-            let mut generator = Generator::new(options.seed()?, options.kind()?);
-            let table = coverage::table(&mut generator, options.commands()?);
-            quiet_on_closed_pipe(io::stdout().lock().write_all(table.as_bytes()))
         }
         "compare" => {
             options.allow(&["--calls", "--seed", "--commands", "--only", "--batch"])?;

@@ -35,10 +35,6 @@ impl Session {
         }
     }
 
-    pub fn station(&self) -> &Station {
-        &self.station
-    }
-
     pub fn line(&self) -> &BenchLine {
         &self.line
     }
