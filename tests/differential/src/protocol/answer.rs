@@ -8,15 +8,14 @@ use crate::manchester::{
     PhaseSearch, SampleWindow, DECODED_BYTES,
 };
 use crate::protocol::command::{
-    push_byte_string_field, push_decode, push_hex_field, push_number, push_number_field, Capture,
-    Command, Rank,
+    push_byte_string_field, push_hex_field, push_number, push_number_field, push_word, Capture,
+    Command, Operand, Rank,
 };
-use crate::rust::encoder::Frame;
+use crate::protocol::levels::Levels;
 use crate::rust::line::BenchLine;
 use crate::rust::original::rx_decode::{RxDecode, SniffedDecode, SniffedFrame};
 use crate::rust::station::{Call, HalfBits, Station};
 
-const BAD_LINE: &[u8] = b"?";
 const MOST_STEPS: u8 = 5;
 
 /// What stays from one line to the next.
@@ -44,22 +43,22 @@ impl Session {
         let command = Command::read(line);
         match &command {
             Some(command) => self.answer_command(command, out),
-            None => out.extend_from_slice(BAD_LINE),
+            None => out.push(b'?'),
         }
         out.push(b'\n');
         command
     }
 
-    pub fn answer_command(&mut self, command: &Command, out: &mut Vec<u8>) {
+    fn answer_command(&mut self, command: &Command, out: &mut Vec<u8>) {
         match command {
-            Command::Weight { sample } => push_number(out, i32::from(sample_weight(*sample))),
+            Command::Weight { sample: [sample] } => push_number(out, sample_weight(*sample)),
             Command::Phase {
                 max,
                 phase,
                 capture,
             } => {
-                out.extend_from_slice(b"phase");
-                push_decode(out, &window(capture).decode_phase(*max, *phase));
+                say(out, "phase");
+                window(capture).decode_phase(*max, *phase).write(out);
             }
             Command::Search { mask, capture } => {
                 push_run(out, CountedSearch::new(*mask).run(&window(capture)));
@@ -67,14 +66,14 @@ impl Session {
             Command::Steps { mask, k, capture } => push_steps(out, *mask, *k, &window(capture)),
             Command::BsNew { mask } => {
                 self.search = CountedSearch::new(*mask);
-                push_ok(out);
+                say(out, "ok");
             }
             Command::BsStep { capture } => match self.search.step(&window(capture)) {
-                PhaseSearch::Searching => out.extend_from_slice(b"searching"),
-                PhaseSearch::Done(None) => out.extend_from_slice(b"nothing"),
+                PhaseSearch::Searching => say(out, "searching"),
+                PhaseSearch::Done(None) => say(out, "nothing"),
                 PhaseSearch::Done(Some(decode)) => {
-                    out.extend_from_slice(b"found");
-                    push_decode(out, &decode);
+                    say(out, "found");
+                    decode.write(out);
                 }
             },
             Command::BsRun { capture } => push_run(out, self.search.run(&window(capture))),
@@ -84,73 +83,134 @@ impl Session {
                 current,
             } => {
                 let better = is_better_decode(&ranked(candidate), &ranked(current), lengths(*mask));
-                push_number(out, i32::from(better));
+                push_flag(out, better);
             }
-            Command::Lengths { bytes, n } => {
-                push_number(out, i32::from(BitLengths::of(bytes).contains(*n)));
-            }
-            Command::Sniff { capture } => push_sniffed(out, &sniffed(&event(capture))),
-            Command::SniffDec { found } => {
-                push_sniffed(out, &sniffed(&empty_event_that_holds(*found)));
-            }
+            Command::Lengths { bytes, n } => push_flag(out, BitLengths::of(bytes).contains(*n)),
+            Command::Sniff { capture } => push_sniffed(out, &event(capture)),
+            Command::SniffDec { found } => push_sniffed(out, &empty_event_that_holds(*found)),
             Command::Backward { capture } => match event(capture).decode_backward_byte() {
-                None => out.extend_from_slice(b"none"),
+                None => say(out, "none"),
                 Some(byte) => {
-                    out.extend_from_slice(b"byte");
-                    push_hex_field(out, &[byte]);
+                    say(out, "byte");
+                    [byte].write(out);
                 }
             },
             Command::LowRun { capture } => {
-                let ticks = event(capture).longest_dominant_run_ticks();
-                push_number(out, i32::from(ticks));
+                push_number(out, event(capture).longest_dominant_run_ticks());
             }
-            Command::Held { capture } => {
-                push_number(out, i32::from(event(capture).is_line_held()));
-            }
+            Command::Held { capture } => push_flag(out, event(capture).is_line_held()),
             Command::Encode { frame } => match frame.encode() {
                 Ok(half_bits) => push_half_bits(out, &half_bits),
-                Err(refusal) => push_refused(out, refusal as i32),
+                Err(refusal) => push_refused(out, refusal as u8),
             },
-            Command::EncodeBuf { frame, buffer } => push_encoded_into(out, frame, buffer.clone()),
+            Command::EncodeBuf { frame, buffer } => {
+                let mut buffer = buffer.clone();
+                match frame.encode_into(&mut buffer) {
+                    Ok(half_bits) => push_number(out, half_bits),
+                    Err(refusal) => push_refused(out, refusal as u8),
+                }
+                buffer.write(out);
+            }
+            Command::Settle { ticks, lead } => {
+                push_number(out, settle_ticks_on_wire(*ticks, *lead));
+            }
+            Command::Gate { ticks } => push_number(out, restart_gate_for(*ticks)),
+            Command::New | Command::Tick { .. } | Command::Ticks { .. } | Command::Call(_) => {
+                self.station.answer(command, out);
+            }
+            Command::Line { .. }
+            | Command::LineTicks { .. }
+            | Command::LineLevel
+            | Command::LineCall { .. } => self.line.answer(command, out),
+        }
+    }
+}
+
+impl Station {
+    /// Does what a command on the station says and adds the answer; nothing for another command.
+    fn answer(&mut self, command: &Command, out: &mut Vec<u8>) {
+        match command {
             Command::New => {
-                self.station = Station::new();
-                push_ok(out);
+                *self = Self::new();
+                say(out, "ok");
             }
             Command::Tick { high } => {
-                out.push(b'd');
-                push_number_field(out, i32::from(self.station.tick(*high)));
+                say(out, "d");
+                self.tick(*high).write(out);
             }
             Command::Ticks { levels } => {
-                let driven = levels.answered(|high| self.station.tick(high));
-                out.push(b'd');
+                let driven: Levels = levels.iter().map(|high| self.tick(high)).collect();
+                say(out, "d");
                 push_byte_string_field(out, driven.bytes());
             }
-            Command::Call(call) => push_called(out, &mut self.station, call),
-            Command::Settle { ticks, lead } => {
-                push_number(out, i32::from(settle_ticks_on_wire(*ticks, *lead)));
+            Command::Call(call) => self.answer_call(call, out),
+            _ => {}
+        }
+    }
+
+    /// Does what a command on the station says where its answer isn't wanted.
+    pub fn make(&mut self, command: &Command) {
+        self.answer(command, &mut Vec::new());
+    }
+
+    fn answer_call(&mut self, call: &Call, out: &mut Vec<u8>) {
+        match call {
+            Call::Policy { policy } => {
+                self.machine.set_collision_policy(*policy);
+                say(out, "ok");
             }
-            Command::Gate { ticks } => push_number(out, i32::from(restart_gate_for(*ticks))),
+            Call::Start { start, half_bits } => match self.start(*start, half_bits) {
+                None => say(out, "ok"),
+                Some(refusal) => push_refused(out, refusal as u8),
+            },
+            Call::Poll => say(out, poll_word(self.machine.poll_tx_state())),
+            Call::TakeIdle => push_flag(out, self.machine.take_idle_after_break()),
+            Call::TakeRx => match self.take_rx() {
+                None => say(out, "none"),
+                Some(event) => {
+                    say(out, "event");
+                    push_event(out, &event);
+                }
+            },
+            Call::Ack => {
+                self.machine.acknowledge_rx_frame();
+                say(out, "ok");
+            }
+            Call::State => push_state(out, self),
+        }
+    }
+}
+
+impl BenchLine {
+    /// Does what a command on the line says and adds the answer; nothing for another command.
+    fn answer(&mut self, command: &Command, out: &mut Vec<u8>) {
+        match command {
             Command::Line { stations } => match BenchLine::of(*stations) {
                 Ok(line) => {
-                    self.line = line;
-                    push_ok(out);
+                    *self = line;
+                    say(out, "ok");
                 }
-                Err(refusal) => push_refused(out, refusal as i32),
+                Err(refusal) => push_refused(out, refusal as u8),
             },
             Command::LineTicks { ticks } => {
-                let left = self.line.ticks(*ticks);
-                out.push(b'l');
-                push_byte_string_field(out, left.bytes());
+                say(out, "l");
+                push_byte_string_field(out, self.ticks(*ticks).bytes());
             }
             Command::LineLevel => {
-                out.push(b'l');
-                push_number_field(out, i32::from(self.line.is_high()));
+                say(out, "l");
+                self.is_high().write(out);
             }
-            Command::LineCall { station, call } => match self.line.station_mut(*station) {
-                Ok(station) => push_called(out, station, call),
-                Err(refusal) => push_refused(out, refusal as i32),
+            Command::LineCall { station, call } => match self.station_mut(*station) {
+                Ok(station) => station.answer_call(call, out),
+                Err(refusal) => push_refused(out, refusal as u8),
             },
+            _ => {}
         }
+    }
+
+    /// Does what a command on the line says where its answer isn't wanted.
+    pub fn make(&mut self, command: &Command) {
+        self.answer(command, &mut Vec::new());
     }
 }
 
@@ -197,15 +257,8 @@ fn window(capture: &Capture) -> SampleWindow {
 }
 
 fn lengths(mask: u32) -> BitLengths {
-    let mut members = [0u8; 32];
-    let mut found = 0;
-    for length in 0..32u8 {
-        if mask >> length & 1 != 0 {
-            members[found] = length;
-            found += 1;
-        }
-    }
-    BitLengths::of(&members[..found])
+    let members: Vec<u8> = (0..32).filter(|length| mask >> length & 1 != 0).collect();
+    BitLengths::of(&members)
 }
 
 fn ranked(rank: &Rank) -> PhaseDecode {
@@ -240,144 +293,111 @@ fn sniffed(event: &RxCompletedEvent) -> SniffedDecode {
     decode
 }
 
-fn push_ok(out: &mut Vec<u8>) {
-    out.extend_from_slice(b"ok");
+/// The first word of an answer.
+fn say(out: &mut Vec<u8>, word: &str) {
+    out.extend_from_slice(word.as_bytes());
+}
+
+fn push_flag(out: &mut Vec<u8>, flag: bool) {
+    push_number(out, u8::from(flag));
+}
+
+fn push_refused(out: &mut Vec<u8>, number: u8) {
+    say(out, "refused");
+    number.write(out);
 }
 
 fn push_run(out: &mut Vec<u8>, (found, steps): (Option<PhaseDecode>, u8)) {
-    out.extend_from_slice(match found {
-        Some(_) => &b"found"[..],
-        None => &b"nothing"[..],
-    });
-    push_number_field(out, i32::from(steps));
+    say(out, if found.is_some() { "found" } else { "nothing" });
+    steps.write(out);
     if let Some(decode) = found {
-        push_decode(out, &decode);
+        decode.write(out);
     }
 }
 
 fn push_steps(out: &mut Vec<u8>, mask: u32, k: u8, window: &SampleWindow) {
     let mut search = BestPhaseSearch::new(lengths(mask));
-    out.extend_from_slice(b"steps");
-    push_number_field(out, i32::from(k));
+    say(out, "steps");
+    k.write(out);
     for _ in 0..k {
-        out.extend_from_slice(b" |");
+        push_word(out, "|");
         match search.step(window) {
-            PhaseSearch::Searching => out.extend_from_slice(b" searching"),
-            PhaseSearch::Done(None) => out.extend_from_slice(b" nothing"),
-            PhaseSearch::Done(Some(decode)) => push_decode(out, &decode),
+            PhaseSearch::Searching => push_word(out, "searching"),
+            PhaseSearch::Done(None) => push_word(out, "nothing"),
+            PhaseSearch::Done(Some(decode)) => decode.write(out),
         }
     }
 }
 
-fn push_sniffed(out: &mut Vec<u8>, decode: &SniffedDecode) {
+fn push_sniffed(out: &mut Vec<u8>, event: &RxCompletedEvent) {
+    let decode = sniffed(event);
     match decode.frame {
-        SniffedFrame::Backward8(byte) => push_frame(out, b"B8", &[byte]),
-        SniffedFrame::Forward16(word) => push_frame(out, b"F16", &word.to_be_bytes()),
-        SniffedFrame::Forward24(bytes) => push_frame(out, b"F24", &bytes),
+        SniffedFrame::Backward8(byte) => push_frame(out, "B8", &[byte]),
+        SniffedFrame::Forward16(word) => push_frame(out, "F16", &word.to_be_bytes()),
+        SniffedFrame::Forward24(bytes) => push_frame(out, "F24", &bytes),
         SniffedFrame::UnsupportedLength(length) => {
-            out.extend_from_slice(b"LEN");
-            push_number_field(out, i32::from(length));
+            say(out, "LEN");
+            length.write(out);
         }
-        SniffedFrame::DecodeFailed => push_frame(out, b"FAIL", &[]),
+        SniffedFrame::DecodeFailed => push_frame(out, "FAIL", &[]),
     }
-    push_number_field(out, i32::from(decode.phase_ticks));
-    push_number_field(out, i32::from(decode.score));
+    decode.phase_ticks.write(out);
+    decode.score.write(out);
 }
 
-fn push_frame(out: &mut Vec<u8>, word: &[u8], bytes: &[u8]) {
-    out.extend_from_slice(word);
+fn push_frame(out: &mut Vec<u8>, word: &str, bytes: &[u8]) {
+    say(out, word);
     push_byte_string_field(out, bytes);
 }
 
 pub fn push_half_bits(out: &mut Vec<u8>, half_bits: &HalfBits) {
-    push_number(out, i32::from(half_bits.len));
+    push_number(out, half_bits.len);
     push_hex_field(out, &half_bits.data);
 }
 
-fn push_encoded_into(out: &mut Vec<u8>, frame: &Frame, mut buffer: Vec<u8>) {
-    match frame.encode_into(&mut buffer) {
-        Ok(half_bits) => push_number(out, i32::from(half_bits)),
-        Err(refusal) => push_refused(out, refusal as i32),
-    }
-    push_byte_string_field(out, &buffer);
-}
-
-/// The answer to a call, alike for the one station and for those of the line.
-fn push_called(out: &mut Vec<u8>, station: &mut Station, call: &Call) {
-    match call {
-        Call::Policy { policy } => {
-            station.set_policy(*policy);
-            push_ok(out);
-        }
-        Call::Start { start, half_bits } => match station.start(*start, half_bits) {
-            None => push_ok(out),
-            Some(refusal) => push_refused(out, refusal as i32),
-        },
-        Call::Poll => out.extend_from_slice(poll_word(station.poll())),
-        Call::TakeIdle => push_number(out, i32::from(station.take_idle())),
-        Call::TakeRx => match station.take_rx() {
-            None => out.extend_from_slice(b"none"),
-            Some(event) => {
-                out.extend_from_slice(b"event");
-                push_event(out, &event);
-            }
-        },
-        Call::Ack => {
-            station.acknowledge();
-            push_ok(out);
-        }
-        Call::State => push_state(out, station),
-    }
-}
-
-fn push_refused(out: &mut Vec<u8>, number: i32) {
-    out.extend_from_slice(b"refused");
-    push_number_field(out, number);
-}
-
 fn push_state(out: &mut Vec<u8>, station: &Station) {
-    out.extend_from_slice(b"state ");
-    out.extend_from_slice(bus_word(station.bus_state()));
-    out.push(b' ');
-    out.extend_from_slice(rx_word(station.rx_state()));
-    push_number_field(out, i32::from(station.is_debouncing()));
-    push_number_field(out, i32::from(station.idle_ticks()));
-    push_number_field(out, i32::from(station.low_run_ticks()));
-    push_number_field(out, i32::from(station.tx_pre_idle_ticks()));
-    push_number_field(out, i32::from(station.rx_pre_idle_ticks()));
-    push_number_field(out, i32::from(station.is_busy()));
-    push_number_field(out, i32::from(station.drives_high()));
-    push_event(out, station.last_event());
+    let machine = &station.machine;
+    say(out, "state");
+    push_word(out, bus_word(machine.bus_state()));
+    push_word(out, rx_word(machine.rx_state()));
+    machine.line_debouncing().write(out);
+    machine.idle_tick_count().write(out);
+    machine.bus_low_run_ticks().write(out);
+    machine.tx_pre_idle_ticks().write(out);
+    machine.rx_pre_idle_ticks().write(out);
+    station.is_busy().write(out);
+    station.drives_high().write(out);
+    push_event(out, machine.last_rx_event());
 }
 
 fn push_event(out: &mut Vec<u8>, event: &RxCompletedEvent) {
-    push_number_field(out, i32::from(event.sample_count));
-    push_number_field(out, i32::from(event.pre_idle_ticks));
-    push_hex_field(out, &event.samples);
+    event.sample_count.write(out);
+    push_number_field(out, event.pre_idle_ticks);
+    event.samples.write(out);
 }
 
-fn poll_word(result: TxPollResult) -> &'static [u8] {
+fn poll_word(result: TxPollResult) -> &'static str {
     match result {
-        TxPollResult::Ok => b"ok",
-        TxPollResult::Collision => b"collision",
-        TxPollResult::Transmitting => b"transmitting",
-        TxPollResult::Yielded => b"yielded",
+        TxPollResult::Ok => "ok",
+        TxPollResult::Collision => "collision",
+        TxPollResult::Transmitting => "transmitting",
+        TxPollResult::Yielded => "yielded",
     }
 }
 
-pub fn bus_word(state: BusState) -> &'static [u8] {
+fn bus_word(state: BusState) -> &'static str {
     match state {
-        BusState::Idle => b"idle",
-        BusState::Rx => b"rx",
-        BusState::Tx => b"tx",
-        BusState::CollisionTx => b"collision",
+        BusState::Idle => "idle",
+        BusState::Rx => "rx",
+        BusState::Tx => "tx",
+        BusState::CollisionTx => "collision",
     }
 }
 
-fn rx_word(state: RxState) -> &'static [u8] {
+fn rx_word(state: RxState) -> &'static str {
     match state {
-        RxState::Empty => b"empty",
-        RxState::Receiving => b"receiving",
-        RxState::Completed => b"completed",
+        RxState::Empty => "empty",
+        RxState::Receiving => "receiving",
+        RxState::Completed => "completed",
     }
 }

@@ -511,7 +511,7 @@ fn change_number(command: &mut Command, number: usize, make: fn(i32) -> i32) {
         },
         Command::Steps { k, .. } if number == 0 => on_u8(k),
         Command::Lengths { n, .. } if number == 0 => on_u8(n),
-        Command::Weight { sample } if number == 0 => on_u8(sample),
+        Command::Weight { sample: [sample] } if number == 0 => on_u8(sample),
         Command::SniffDec {
             found: Some(decode),
         } => match number {

@@ -1,7 +1,6 @@
 //! Document 01's bench line: one to four of the unchanged Rust's stations on one wire, which nothing else pulls.
 
 use crate::fsm::BusState;
-use crate::protocol::command::Command;
 use crate::protocol::levels::{Levels, HIGH};
 use crate::rust::station::Station;
 
@@ -22,13 +21,13 @@ pub struct BenchLine {
 impl BenchLine {
     /// A new line, and none for a count that it can't have.
     pub fn of(stations: u8) -> Result<Self, Refusal> {
-        if !(1..=MOST_STATIONS).contains(&stations) {
-            return Err(Refusal::StationCount);
+        match stations {
+            1..=MOST_STATIONS => Ok(Self {
+                stations: (0..stations).map(|_| Station::new()).collect(),
+                high: HIGH,
+            }),
+            _ => Err(Refusal::StationCount),
         }
-        Ok(Self {
-            stations: (0..stations).map(|_| Station::new()).collect(),
-            high: HIGH,
-        })
     }
 
     /// The line that is there before any is asked for.
@@ -51,31 +50,7 @@ impl BenchLine {
 
     /// The level that each of so many ticks leaves.
     pub fn ticks(&mut self, ticks: usize) -> Levels {
-        let mut left = Levels::with_room_for(ticks);
-        for _ in 0..ticks {
-            left.push(self.tick());
-        }
-        left
-    }
-
-    /// Does what a command says where its answer isn't wanted; nothing for a command of another kind.
-    pub fn make(&mut self, command: &Command) {
-        match command {
-            Command::Line { stations } => {
-                if let Ok(line) = Self::of(*stations) {
-                    *self = line;
-                }
-            }
-            Command::LineTicks { ticks } => {
-                self.ticks(*ticks);
-            }
-            Command::LineCall { station, call } => {
-                if let Ok(station) = self.station_mut(*station) {
-                    station.make_call(call);
-                }
-            }
-            _ => {}
-        }
+        (0..ticks).map(|_| self.tick()).collect()
     }
 
     pub fn all_are_idle(&self) -> bool {

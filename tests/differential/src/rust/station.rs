@@ -4,18 +4,15 @@ use std::cell::Cell;
 use std::rc::Rc;
 use std::sync::atomic::Ordering;
 
-use crate::fsm::{
-    BusState, CollisionPolicy, DaliBitbangPhy, RxCompletedEvent, RxState, TxPollResult,
-};
+use crate::fsm::{BusState, CollisionPolicy, DaliBitbangPhy, RxCompletedEvent, RxState};
 use crate::halfbits::HalfBitBuffer;
 use crate::platform::hal::BitbangHal;
-use crate::protocol::command::Command;
 
 pub const HALF_BIT_BYTES: usize = HalfBitBuffer::DATA_LEN;
 pub const MOST_HALF_BITS: u8 = HalfBitBuffer::MAX_DATA_HALF_BITS;
 
 /// The two levels that pass between a station and its line. A tick on which the Rust sets no level leaves the driven one as it is.
-struct Line {
+pub struct Line {
     sampled_high: Cell<bool>,
     driven_high: Cell<bool>,
 }
@@ -91,7 +88,7 @@ pub enum Refusal {
 }
 
 pub struct Station {
-    machine: DaliBitbangPhy<Rc<Line>>,
+    pub machine: DaliBitbangPhy<Rc<Line>>,
     line: Rc<Line>,
 }
 
@@ -105,10 +102,6 @@ impl Station {
             machine: DaliBitbangPhy::new(line.clone()),
             line,
         }
-    }
-
-    pub fn set_policy(&mut self, policy: CollisionPolicy) {
-        self.machine.set_collision_policy(policy);
     }
 
     /// Takes the sampled level and gives the driven one; high is true.
@@ -155,55 +148,8 @@ impl Station {
         }
     }
 
-    /// Does what a command says where its answer isn't wanted; nothing for a command of another kind.
-    pub fn make(&mut self, command: &Command) {
-        match command {
-            Command::New => *self = Self::new(),
-            Command::Tick { high } => {
-                self.tick(*high);
-            }
-            Command::Ticks { levels } => {
-                levels.answered(|high| self.tick(high));
-            }
-            Command::Call(call) => self.make_call(call),
-            _ => {}
-        }
-    }
-
-    pub fn make_call(&mut self, call: &Call) {
-        match call {
-            Call::Policy { policy } => self.set_policy(*policy),
-            Call::Start { start, half_bits } => {
-                self.start(*start, half_bits);
-            }
-            Call::Poll => {
-                self.poll();
-            }
-            Call::TakeIdle => {
-                self.take_idle();
-            }
-            Call::TakeRx => {
-                self.take_rx();
-            }
-            Call::Ack => self.acknowledge(),
-            Call::State => {}
-        }
-    }
-
-    pub fn poll(&mut self) -> TxPollResult {
-        self.machine.poll_tx_state()
-    }
-
-    pub fn take_idle(&mut self) -> bool {
-        self.machine.take_idle_after_break()
-    }
-
     pub fn take_rx(&mut self) -> Option<RxCompletedEvent> {
         self.machine.take_completed_rx_event()
-    }
-
-    pub fn acknowledge(&mut self) {
-        self.machine.acknowledge_rx_frame();
     }
 
     pub fn drives_high(&self) -> bool {
@@ -224,22 +170,6 @@ impl Station {
 
     pub fn is_debouncing(&self) -> bool {
         self.machine.line_debouncing()
-    }
-
-    pub fn idle_ticks(&self) -> u16 {
-        self.machine.idle_tick_count()
-    }
-
-    pub fn low_run_ticks(&self) -> u16 {
-        self.machine.bus_low_run_ticks()
-    }
-
-    pub fn tx_pre_idle_ticks(&self) -> u16 {
-        self.machine.tx_pre_idle_ticks()
-    }
-
-    pub fn rx_pre_idle_ticks(&self) -> u8 {
-        self.machine.rx_pre_idle_ticks()
     }
 
     pub fn last_event(&self) -> &RxCompletedEvent {

@@ -158,7 +158,7 @@ impl Generator {
             Kind::Station | Kind::StationLong => self.station.next(random),
             Kind::Line => self.line.next(random),
             Kind::Weight => Command::Weight {
-                sample: random.byte(),
+                sample: [random.byte()],
             },
             Kind::Search => Command::Search {
                 mask: any_mask(random),

@@ -133,7 +133,7 @@ impl StationLines {
         let mut left = most;
         while left > 0 && !reached(&self.station) {
             let room = left.min(MOST_TICKS);
-            let mut levels = Levels::with_room_for(room);
+            let mut levels = Levels::default();
             while levels.ticks() < room && !reached(&self.station) {
                 let high = self.one_tick(random);
                 levels.push(high);
