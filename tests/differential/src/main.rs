@@ -22,6 +22,8 @@ mod scripts {
     pub mod line_lines;
     pub mod others;
     pub mod pairs;
+    pub mod sequences;
+    pub mod spoil;
     pub mod station_lines;
 }
 /// What document 01 demands of whole frames and of senders on one line, stated without a station.

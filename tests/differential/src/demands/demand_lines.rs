@@ -13,7 +13,7 @@ use crate::rust::station::{Call, HalfBits, Start, HALF_BIT_BYTES};
 use crate::scripts::line_lines::brief_pull;
 use crate::scripts::others::any_frame;
 use crate::scripts::pairs::any_pair;
-use crate::scripts::station_lines::{any_half_bits, POLICIES};
+use crate::scripts::sequences::{any_half_bits, POLICIES};
 
 const WATCHING: [CollisionPolicy; 2] = [CollisionPolicy::Auto, CollisionPolicy::On];
 /// Stands for what the demand says of an answer of which it says nothing.

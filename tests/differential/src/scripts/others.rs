@@ -8,47 +8,30 @@ use crate::rust::encoder::HALF_BIT_TICKS;
 use crate::rust::station::HalfBits;
 use crate::scripts::captures::{any_wave, bits_of, exact_wave};
 
-/// What comes when the planned runs are used up.
-#[derive(Clone, Copy, PartialEq, Eq)]
-pub enum Mood {
-    Quiet,
-    Busy,
-}
-
+#[derive(Default)]
 pub struct Others {
-    pub mood: Mood,
-    high: bool,
-    left: usize,
+    /// Whether something comes when the planned runs are used up, or silence.
+    pub are_busy: bool,
     planned: VecDeque<(bool, usize)>,
 }
 
 impl Others {
-    pub fn new() -> Self {
-        Self {
-            mood: Mood::Quiet,
-            high: HIGH,
-            left: 0,
-            planned: VecDeque::new(),
-        }
-    }
-
     pub fn next_level(&mut self, random: &mut Random) -> bool {
-        while self.left == 0 {
-            match self.planned.pop_front() {
-                Some((high, ticks)) => {
-                    self.high = high;
-                    self.left = ticks;
+        loop {
+            match self.planned.front_mut() {
+                Some((high, left @ 1..)) => {
+                    *left -= 1;
+                    return *high;
                 }
-                None => self.go_on(random),
+                Some(_) => drop(self.planned.pop_front()),
+                None if self.are_busy => self.plan_something(random),
+                None => self.plan(HIGH, 64),
             }
         }
-        self.left -= 1;
-        self.high
     }
 
     /// Forgets what was planned; what is planned from now on begins with the next tick.
     pub fn forget(&mut self) {
-        self.left = 0;
         self.planned.clear();
     }
 
@@ -56,9 +39,10 @@ impl Others {
         self.planned.push_back((high, ticks));
     }
 
-    fn plan_wave(&mut self, runs: &[u8]) {
-        for (number, run) in runs.iter().enumerate() {
-            self.plan(number % 2 == 1, usize::from(*run));
+    /// Low runs and high ones by turns.
+    fn plan_runs(&mut self, runs: impl IntoIterator<Item = u8>) {
+        for (number, ticks) in runs.into_iter().enumerate() {
+            self.plan(number % 2 == 1, usize::from(ticks));
         }
     }
 
@@ -70,20 +54,10 @@ impl Others {
     }
 
     pub fn plan_frame(&mut self, random: &mut Random) {
-        if random.one_in(3) {
-            let wave = any_wave(random);
-            self.plan_wave(&wave);
-        } else {
-            let bytes = any_frame(random);
-            self.plan_wave(&exact_wave(&bits_of(&bytes)));
-        }
-    }
-
-    fn go_on(&mut self, random: &mut Random) {
-        match self.mood {
-            Mood::Quiet => self.plan(HIGH, 64),
-            Mood::Busy => self.plan_something(random),
-        }
+        self.plan_runs(match random.below(3) {
+            0 => any_wave(random),
+            _ => exact_wave(&bits_of(&any_frame(random))),
+        });
     }
 
     fn plan_something(&mut self, random: &mut Random) {
@@ -92,52 +66,34 @@ impl Others {
                 self.plan_frame(random);
                 self.plan_pause(random);
             }
-            16..=19 => self.plan_lone_low(random),
-            20..=24 => self.plan_short_lows(random),
-            25..=28 => self.plan_noise(random),
+            // One low tick starts no capture, nor do two with a high one between them.
+            16..=19 => self.plan_runs([1, random.between(1, 4), 1, random.between(1, 4)]),
+            20..=24 => self.plan_runs([random.between(2, 30), random.between(14, 18)]),
+            25..=28 => {
+                let longest = random.pick(&[1, 2, 3, 5, 8, 16]);
+                let noise = random.between(4, 60);
+                self.plan_runs((0..noise).map(|_| random.between(1, longest)));
+            }
             // A capture holds 504 ticks of its wave.
-            29 => self.plan(LOW, random.between(480, 600) as usize),
+            29 => self.plan(LOW, random.between(480, 600)),
             // The silence before a capture is told up to 255.
-            30 => self.plan(HIGH, random.between(240, 270) as usize),
-            31 => self.plan(HIGH, random.between(300, 3000) as usize),
+            30 => self.plan(HIGH, random.between(240, 270)),
+            31 => self.plan(HIGH, random.between(300, 3000)),
             _ => self.plan_pause(random),
         }
     }
 
     /// Sixteen high ticks end a capture.
     fn plan_pause(&mut self, random: &mut Random) {
-        let ticks = match random.below(4) {
-            0 | 1 => random.between(14, 18),
-            2 => random.between(1, 13),
-            _ => random.between(18, 60),
-        };
-        self.plan(HIGH, ticks as usize);
-    }
-
-    /// One low tick starts no capture, nor do two with a high one between them.
-    fn plan_lone_low(&mut self, random: &mut Random) {
-        for _ in 0..random.between(1, 3) {
-            self.plan(LOW, 1);
-            self.plan(HIGH, random.between(1, 4) as usize);
-        }
-    }
-
-    fn plan_short_lows(&mut self, random: &mut Random) {
-        self.plan(LOW, random.between(2, 30) as usize);
-        self.plan(HIGH, random.between(14, 18) as usize);
-    }
-
-    fn plan_noise(&mut self, random: &mut Random) {
-        let longest = random.pick(&[1, 2, 3, 5, 8, 16]);
-        for number in 0..random.between(4, 60) {
-            self.plan(number % 2 == 1, random.between(1, longest) as usize);
-        }
+        let [least, most] = random.pick(&[[14, 18], [14, 18], [1, 13], [18, 60]]);
+        self.plan(HIGH, random.between(least, most));
     }
 }
 
+/// One to three bytes.
 pub fn any_frame(random: &mut Random) -> Vec<u8> {
     let bytes = random.any().to_be_bytes();
-    let length = random.between(1, 3) as usize;
+    let length = random.between(1, 3);
     match random.below(8) {
         0 => vec![0x00; length],
         1 => vec![0xFF; length],
