@@ -40,10 +40,9 @@ mod books {
     pub mod book_runs;
     pub mod books;
     pub mod damage;
-    pub mod day;
-    pub mod edges;
     pub mod reader;
     pub mod uneven;
+    pub mod waves;
 }
 /// Running another program and telling how its answers differ.
 mod runs {
@@ -61,8 +60,7 @@ use rust::shims::{halfbits, platform};
 use std::io::{self, BufRead, BufWriter, Write};
 use std::process::ExitCode;
 
-use books::books::Book;
-use books::{book_runs, day, edges, reader, uneven};
+use books::{book_runs, reader, uneven};
 use demands::{frames, lines};
 use protocol::answer;
 use runs::compare;
@@ -78,11 +76,7 @@ const USAGE: &str = "usage:
                                                       demand 3, so many runs with one sender and with two
   differential reader                                 answers the book on standard input
   differential book --lines N --kind BOOK --seed S    writes a book; BOOK is clean, mixed or damaged
-  differential edges                                  writes the book of edge lines
-  differential escaped-edges                          the same as text, for printf's %b
-  differential sample                                 writes a gateway's day on the bench
-  differential long                                   writes the book that is longer than several reads
-  differential books --reader PROGRAM --lines N --seed S [--cuts K] [--batch B]
+  differential books --reader PROGRAM --lines N --seed S [--edges FILE] [--cuts K] [--batch B]
                                                       books of B lines, N in all; the edge book at K places
   differential uneven --frames N [--seed S] [--reader PROGRAM]
                                                       how frames with uneven edges are read, N of a kind at random
@@ -93,6 +87,7 @@ const USUAL_FRAMES_BATCH: usize = 5_000;
 const USUAL_LINES_RUNS: u64 = 20_000;
 const USUAL_LINES_BATCH: usize = 2_000;
 const USUAL_BOOK_LINES: usize = 10_000;
+const USUAL_EDGES: &str = "samples/edges.escaped";
 const USUAL_SEED: u64 = 62386;
 const DIFFERENT: u8 = 1;
 const MISUSED_OR_BROKEN: u8 = 2;
@@ -143,27 +138,13 @@ fn run(words: &[String]) -> Result<bool, String> {
         }
         "book" => {
             options.allow(&["--lines", "--kind", "--seed"])?;
-            let book = Book::new(options.seed()?, options.book_kind()?, options.lines()?);
-            quiet_on_closed_pipe(book.write(&mut BufWriter::new(io::stdout().lock())))
-        }
-        "edges" => {
-            options.allow(&[])?;
-            quiet_on_closed_pipe(io::stdout().lock().write_all(&edges::book()))
-        }
-        "escaped-edges" => {
-            options.allow(&[])?;
-            quiet_on_closed_pipe(io::stdout().lock().write_all(edges::escaped().as_bytes()))
-        }
-        "sample" => {
-            options.allow(&[])?;
-            quiet_on_closed_pipe(io::stdout().lock().write_all(&day::book()))
-        }
-        "long" => {
-            options.allow(&[])?;
-            quiet_on_closed_pipe(io::stdout().lock().write_all(&books::books::long_book()))
+            let book = books::books::book(options.seed()?, options.book_kind()?, options.lines()?);
+            quiet_on_closed_pipe(io::stdout().lock().write_all(&book))
         }
         "books" => {
-            options.allow(&["--reader", "--lines", "--seed", "--cuts", "--batch"])?;
+            options.allow(&[
+                "--reader", "--lines", "--seed", "--edges", "--cuts", "--batch",
+            ])?;
             let task = options.books_task()?;
             book_runs::run(&task).map_err(|error| format!("{}: {error}", task.program))
         }
@@ -315,8 +296,16 @@ impl<'a> Options<'a> {
             seed: self.seed()?,
             lines: self.lines()?,
             batch: self.batch(USUAL_BOOK_LINES)?,
+            edges: self.edges()?,
             cuts,
         })
+    }
+
+    /// The edge book, from the text that it is stored as.
+    fn edges(&self) -> Result<Vec<u8>, String> {
+        let path = self.find("--edges").unwrap_or(USUAL_EDGES);
+        let text = std::fs::read_to_string(path).map_err(|error| format!("{path}: {error}"))?;
+        book_runs::unescaped(&text).ok_or(format!("{path}: not as printf's %b takes a book here"))
     }
 
     fn uneven_task(&self) -> Result<uneven::Task, String> {

@@ -2,25 +2,15 @@
 //! a station of the Rust that is Idle, and what the Rust reads from its captures. A bench reader can be held to the same captures.
 
 use std::io::{self, Write};
-use std::iter::repeat_n;
-use std::process::Stdio;
-use std::sync::Arc;
 use std::time::Instant;
 
-use crate::books::book_runs::report;
-use crate::books::books::push_record;
-use crate::books::reader::answers;
+use crate::books::book_runs::Trial;
+use crate::books::books::record;
+use crate::books::waves::{bits_of, exact_runs, put_every_run_off, Listener};
 use crate::fsm::RxCompletedEvent;
-use crate::protocol::command::Capture;
-use crate::protocol::levels::HIGH;
 use crate::random::Random;
-use crate::runs::program::{first_difference, Run};
 use crate::rust::original::rx_decode::{RxDecode, SniffedDecode, SniffedFrame};
-use crate::rust::station::Station;
-use crate::scripts::captures::{bits_of, exact_wave, IDLE_TICKS};
 
-/// The high ticks before each wave, beside those that ended the capture before it.
-const QUIET_TICKS: usize = 8;
 const BOOK_LINES: usize = 100_000;
 
 const HEADING: &str = "\
@@ -44,27 +34,54 @@ pub fn run(task: &Task) -> io::Result<bool> {
     let (mut waves, mut scores) = (0, String::new());
     let mut output = io::stdout();
     writeln!(output, "{HEADING}")?;
-    for kind in KINDS {
-        let mut bench = Bench::new(task, kind);
-        kind.each_wave(task, |data, runs| bench.hear(data, runs))?;
-        bench.hold_reader()?;
-        if bench.differs {
+    let offs = [Off::One, Off::Two, Off::Every];
+    for kind in (1..=3).flat_map(|bytes| offs.map(|off| Kind { bytes, off })) {
+        let Some(tally) = heard(kind, task)? else {
             return Ok(false);
-        }
-        writeln!(output, "{}", kind.row(&bench.tally))?;
-        scores += &kind.scores_row(&bench.tally);
-        waves += bench.tally.waves();
+        };
+        writeln!(output, "{}", kind.row(&tally))?;
+        scores += &kind.scores_row(&tally);
+        waves += tally.waves();
     }
     writeln!(output, "\n{SCORES_HEADING}\n{scores}")?;
+    let (seed, waves) = (task.seed, grouped(waves));
+    let seconds = began.elapsed().as_secs_f64();
     let held = match &task.reader {
         Some(_) => "; the program answers all of their captures as the Rust does",
         None => "",
     };
-    let seconds = began.elapsed().as_secs_f64();
-    let waves = grouped(waves);
-    let seed = task.seed;
     writeln!(output, "seed {seed}: {waves} waves in {seconds:.1} s{held}")?;
     Ok(true)
+}
+
+/// What the Rust read of the waves of a kind; none if the bench reader answers otherwise, which is printed.
+fn heard(kind: Kind, task: &Task) -> io::Result<Option<Tally>> {
+    let mut listener = Listener::new();
+    let mut tally = Tally::default();
+    let mut waves = kind.waves(task);
+    loop {
+        let mut book = Vec::new();
+        for (data, runs) in waves.by_ref().take(BOOK_LINES) {
+            // No run of highs within a wave is long enough to end a capture.
+            let event = listener.hear(&runs).expect("the wave was captured");
+            tally.count(&event.decode_sniffed_with_phase(), &data);
+            push_record(&mut book, &event);
+        }
+        if book.is_empty() {
+            return Ok(Some(tally));
+        }
+        let Some(reader) = &task.reader else { continue };
+        let name = format!("a book of uneven frames of {} bits", 8 * kind.bytes);
+        if Trial::whole(name, book).answers(reader)?.is_none() {
+            return Ok(None);
+        }
+    }
+}
+
+fn push_record(book: &mut Vec<u8>, event: &RxCompletedEvent) {
+    let samples = &event.samples[..usize::from(event.sample_count)];
+    book.extend(record(event.pre_idle_ticks, samples));
+    book.push(b'\n');
 }
 
 /// Which runs of a wave are a tick longer or shorter than they should be.
@@ -81,63 +98,38 @@ enum Off {
 struct Kind {
     bytes: usize,
     off: Off,
-    /// Every frame and all ways to put its runs off; else frames and ways at random.
-    is_exhausted: bool,
 }
 
-const KINDS: [Kind; 9] = [
-    every_case(1, Off::One),
-    every_case(1, Off::Two),
-    at_random(1, Off::Every),
-    every_case(2, Off::One),
-    at_random(2, Off::Two),
-    at_random(2, Off::Every),
-    at_random(3, Off::One),
-    at_random(3, Off::Two),
-    at_random(3, Off::Every),
-];
-
-const fn every_case(bytes: usize, off: Off) -> Kind {
-    let is_exhausted = true;
-    Kind {
-        bytes,
-        off,
-        is_exhausted,
-    }
-}
-
-const fn at_random(bytes: usize, off: Off) -> Kind {
-    let is_exhausted = false;
-    Kind {
-        bytes,
-        off,
-        is_exhausted,
-    }
-}
+type Wave = (Vec<u8>, Vec<usize>);
 
 impl Kind {
-    /// Gives each frame's data with the runs of its wave, low first and then by turns, up to the last low one.
-    fn each_wave(
-        self,
-        task: &Task,
-        mut give: impl FnMut(&[u8], &[u8]) -> io::Result<()>,
-    ) -> io::Result<()> {
-        if self.is_exhausted {
-            for number in 0..1_u32 << (8 * self.bytes) {
-                let data = &number.to_be_bytes()[4 - self.bytes..];
-                let mut give = |runs: &[u8]| give(data, runs);
-                each_way(&mut runs_of(data), 0, self.off, &mut give)?;
-            }
-            return Ok(());
+    /// How many runs are off in every frame and in all ways; none if frames and ways are taken at random.
+    fn exhausted(self) -> Option<usize> {
+        match (self.bytes, self.off) {
+            (1 | 2, Off::One) => Some(1),
+            (1, Off::Two) => Some(2),
+            _ => None,
+        }
+    }
+
+    /// The data of frames with the runs of their waves.
+    fn waves(self, task: &Task) -> Box<dyn Iterator<Item = Wave>> {
+        let bytes = self.bytes;
+        if let Some(off) = self.exhausted() {
+            let numbers = 0..1_u32 << (8 * bytes);
+            return Box::new(numbers.flat_map(move |number| {
+                let data = number.to_be_bytes()[4 - bytes..].to_vec();
+                let ways = all_ways(exact_runs(&bits_of(&data)), 0, off);
+                ways.into_iter().map(move |runs| (data.clone(), runs))
+            }));
         }
         let mut random = Random::new(task.seed);
-        for _ in 0..task.frames {
-            let data = &random.any().to_be_bytes()[..self.bytes];
-            let mut runs = runs_of(data);
+        Box::new((0..task.frames).map(move |_| {
+            let data = random.any().to_be_bytes()[..bytes].to_vec();
+            let mut runs = exact_runs(&bits_of(&data));
             put_off(&mut runs, self.off, &mut random);
-            give(data, &runs)?;
-        }
-        Ok(())
+            (data, runs)
+        }))
     }
 
     fn name(self) -> String {
@@ -150,136 +142,80 @@ impl Kind {
     }
 
     fn row(self, tally: &Tally) -> String {
-        let all = if self.is_exhausted { "all " } else { "" };
+        let all = self.exhausted().map_or("", |_| "all ");
         let waves = tally.waves();
-        let shares = tally.counts.map(|count| share(count, waves));
-        let name = self.name();
-        format!(
-            "| {name} | {all}{} | {} |",
-            grouped(waves),
-            shares.join(" | ")
-        )
+        let shares = tally.counts.map(|count| share(count, waves)).join(" | ");
+        format!("| {} | {all}{} | {shares} |", self.name(), grouped(waves))
     }
 
     /// Empty where no other frame was read.
     fn scores_row(self, tally: &Tally) -> String {
-        let Some(least) = tally.wrong_by_lack.iter().position(|count| *count > 0) else {
+        let Some(least) = tally.least_wrong_lack else {
             return String::new();
         };
-        let right = tally.right_by_lack.iter().sum();
-        let below = tally.right_by_lack[..least].iter().sum();
-        format!("| {} | {least} | {} |\n", self.name(), share(below, right))
+        let lacks = &tally.right_lacks;
+        let below = lacks.iter().filter(|lack| **lack < least).count();
+        let share = share(below, lacks.len());
+        format!("| {} | {least} | {share} |\n", self.name())
     }
 }
 
-/// The runs of a frame's exact wave. The high ticks after the last low run have no end of their own.
-fn runs_of(data: &[u8]) -> Vec<u8> {
-    let mut runs = exact_wave(&bits_of(data));
-    if runs.len() % 2 == 0 {
-        runs.pop();
+/// All ways to put so many of the runs from `from` on off by a tick.
+fn all_ways(runs: Vec<usize>, from: usize, off: usize) -> Vec<Vec<usize>> {
+    if off == 0 {
+        return vec![runs];
     }
-    runs
-}
-
-/// All ways to put one or two of the runs from `from` on off by a tick.
-fn each_way(
-    runs: &mut [u8],
-    from: usize,
-    off: Off,
-    give: &mut dyn FnMut(&[u8]) -> io::Result<()>,
-) -> io::Result<()> {
+    let mut ways = Vec::new();
     for at in from..runs.len() {
-        let exact = runs[at];
-        for ticks in [exact - 1, exact + 1] {
-            runs[at] = ticks;
-            match off {
-                Off::Two => each_way(runs, at + 1, Off::One, give)?,
-                Off::One | Off::Every => give(runs)?,
-            }
-        }
-        runs[at] = exact;
-    }
-    Ok(())
-}
-
-fn put_off(runs: &mut [u8], off: Off, random: &mut Random) {
-    match off {
-        Off::One => {
-            let at = random.below(runs.len());
-            longer_or_shorter(&mut runs[at], random);
-        }
-        Off::Two => {
-            let first = random.below(runs.len());
-            let other = (first + 1 + random.below(runs.len() - 1)) % runs.len();
-            longer_or_shorter(&mut runs[first], random);
-            longer_or_shorter(&mut runs[other], random);
-        }
-        Off::Every => {
-            for run in runs {
-                *run = *run - 1 + random.below(3) as u8;
-            }
+        for ticks in [runs[at] - 1, runs[at] + 1] {
+            let mut changed = runs.clone();
+            changed[at] = ticks;
+            ways.extend(all_ways(changed, at + 1, off - 1));
         }
     }
+    ways
 }
 
-fn longer_or_shorter(run: &mut u8, random: &mut Random) {
-    *run = random.pick(&[*run - 1, *run + 1]);
+fn put_off(runs: &mut [usize], off: Off, random: &mut Random) {
+    if let Off::Every = off {
+        return put_every_run_off(runs, random);
+    }
+    let first = random.below(runs.len());
+    let mut places = vec![first];
+    if let Off::Two = off {
+        places.push((first + 1 + random.below(runs.len() - 1)) % runs.len());
+    }
+    for at in places {
+        runs[at] = random.pick(&[runs[at] - 1, runs[at] + 1]);
+    }
 }
-
-/// How a reading stands to the frame that was sent, in the order of the table.
-#[derive(Clone, Copy)]
-enum Reading {
-    Right,
-    OtherFrame,
-    OtherLength,
-    Len,
-    Fail,
-}
-
-const READINGS: usize = 5;
-const GREATEST_WEIGHT: usize = 25;
-const MOST_BITS: usize = 1 + 24;
 
 /// What was read, and by how much the scores of frames lack what the frame's exact wave would have.
+#[derive(Default)]
 struct Tally {
-    counts: [usize; READINGS],
-    right_by_lack: Vec<usize>,
-    wrong_by_lack: Vec<usize>,
+    /// In the order of the table.
+    counts: [usize; 5],
+    right_lacks: Vec<u16>,
+    least_wrong_lack: Option<u16>,
 }
 
 impl Tally {
-    fn new() -> Self {
-        let lacks = MOST_BITS * GREATEST_WEIGHT + 1;
-        Self {
-            counts: [0; READINGS],
-            right_by_lack: vec![0; lacks],
-            wrong_by_lack: vec![0; lacks],
-        }
-    }
-
     fn count(&mut self, read: &SniffedDecode, sent: &[u8]) {
-        let reading = match read.frame {
-            SniffedFrame::Backward8(byte) => self.count_frame(read, &[byte], sent),
-            SniffedFrame::Forward16(word) => self.count_frame(read, &word.to_be_bytes(), sent),
-            SniffedFrame::Forward24(bytes) => self.count_frame(read, &bytes, sent),
-            SniffedFrame::UnsupportedLength(_) => Reading::Len,
-            SniffedFrame::DecodeFailed => Reading::Fail,
+        let data = match read.frame {
+            SniffedFrame::Backward8(byte) => vec![byte],
+            SniffedFrame::Forward16(word) => word.to_be_bytes().to_vec(),
+            SniffedFrame::Forward24(bytes) => bytes.to_vec(),
+            SniffedFrame::UnsupportedLength(_) => return self.counts[3] += 1,
+            SniffedFrame::DecodeFailed => return self.counts[4] += 1,
         };
-        self.counts[reading as usize] += 1;
-    }
-
-    fn count_frame(&mut self, read: &SniffedDecode, data: &[u8], sent: &[u8]) -> Reading {
-        let lack = full_score(data) - usize::from(read.score);
+        let lack = full_score(&data) - read.score;
         if data == sent {
-            self.right_by_lack[lack] += 1;
-            return Reading::Right;
+            self.right_lacks.push(lack);
+            return self.counts[0] += 1;
         }
-        self.wrong_by_lack[lack] += 1;
-        if data.len() == sent.len() {
-            Reading::OtherFrame
-        } else {
-            Reading::OtherLength
-        }
+        let least = self.least_wrong_lack.unwrap_or(lack);
+        self.least_wrong_lack = Some(lack.min(least));
+        self.counts[if data.len() == sent.len() { 1 } else { 2 }] += 1;
     }
 
     fn waves(&self) -> usize {
@@ -288,82 +224,9 @@ impl Tally {
 }
 
 /// The score of a frame's exact wave: 25 for the start bit and each 1, and 24 for each 0.
-fn full_score(data: &[u8]) -> usize {
-    let bits = bits_of(data);
-    let weights = bits.iter().map(|bit| 24 + usize::from(*bit));
-    GREATEST_WEIGHT + weights.sum::<usize>()
-}
-
-/// The station that hears the waves of one kind, what was read, and the book that the bench reader gets next.
-struct Bench<'a> {
-    station: Station,
-    tally: Tally,
-    reader: Option<&'a str>,
-    name: String,
-    book: Vec<u8>,
-    lines: usize,
-    differs: bool,
-}
-
-impl<'a> Bench<'a> {
-    fn new(task: &'a Task, kind: Kind) -> Self {
-        Self {
-            station: Station::new(),
-            tally: Tally::new(),
-            reader: task.reader.as_deref(),
-            name: format!("a book of uneven frames of {} bits", 8 * kind.bytes),
-            book: Vec::new(),
-            lines: 0,
-            differs: false,
-        }
-    }
-
-    fn hear(&mut self, data: &[u8], runs: &[u8]) -> io::Result<()> {
-        let event = self.captured(runs);
-        self.tally.count(&event.decode_sniffed_with_phase(), data);
-        if self.reader.is_none() || self.differs {
-            return Ok(());
-        }
-        let capture = Capture {
-            count: event.sample_count,
-            samples: event.samples,
-        };
-        push_record(&mut self.book, event.pre_idle_ticks, &capture);
-        self.book.push(b'\n');
-        self.lines += 1;
-        if self.lines == BOOK_LINES {
-            self.hold_reader()?;
-        }
-        Ok(())
-    }
-
-    /// No run of highs within a wave is long enough to end a capture, so there is just one when the line has been idle again.
-    fn captured(&mut self, runs: &[u8]) -> RxCompletedEvent {
-        let before = repeat_n(HIGH, QUIET_TICKS);
-        let numbered = runs.iter().enumerate();
-        let wave = numbered.flat_map(|(number, run)| repeat_n(number % 2 == 1, usize::from(*run)));
-        let after = repeat_n(HIGH, IDLE_TICKS);
-        for high in before.chain(wave).chain(after) {
-            self.station.tick(high);
-        }
-        self.station.take_rx().expect("the wave was captured")
-    }
-
-    /// Gives the book to the bench reader, if there is one, and holds its answers to the Rust's; a difference is printed.
-    fn hold_reader(&mut self) -> io::Result<()> {
-        let Some(reader) = self.reader else {
-            return Ok(());
-        };
-        let book = Arc::new(std::mem::take(&mut self.book));
-        self.lines = 0;
-        let expected = answers(&book);
-        let run = Run::start(reader, book.clone(), expected.len(), Stdio::inherit())?;
-        if let Some(difference) = first_difference(&book, &expected, &run.end()?) {
-            report(&self.name, &book, &difference);
-            self.differs = true;
-        }
-        Ok(())
-    }
+fn full_score(data: &[u8]) -> u16 {
+    let weights = bits_of(data).into_iter().map(|bit| 24 + u16::from(bit));
+    25 + weights.sum::<u16>()
 }
 
 fn share(count: usize, of: usize) -> String {
@@ -373,13 +236,8 @@ fn share(count: usize, of: usize) -> String {
 
 /// A number with its digits in threes.
 fn grouped(number: usize) -> String {
-    let digits = number.to_string();
-    let mut text = String::new();
-    for (place, digit) in digits.chars().enumerate() {
-        if place > 0 && (digits.len() - place) % 3 == 0 {
-            text.push(',');
-        }
-        text.push(digit);
+    match number / 1000 {
+        0 => number.to_string(),
+        thousands => format!("{},{:03}", grouped(thousands), number % 1000),
     }
-    text
 }
