@@ -5,6 +5,7 @@ use crate::demands::frame_lines::reading;
 use crate::fsm::{CollisionPolicy, RxState};
 use crate::protocol::command::{
     push_byte_string_field, push_hex_field, push_number_field, Capture, Command, MOST_TICKS,
+    POLICIES,
 };
 use crate::protocol::levels::Levels;
 use crate::random::Random;
@@ -13,7 +14,7 @@ use crate::rust::station::{Call, HalfBits, Start, HALF_BIT_BYTES};
 use crate::scripts::line_lines::brief_pull;
 use crate::scripts::others::any_frame;
 use crate::scripts::pairs::any_pair;
-use crate::scripts::sequences::{any_half_bits, POLICIES};
+use crate::scripts::sequences::any_half_bits;
 
 const WATCHING: [CollisionPolicy; 2] = [CollisionPolicy::Auto, CollisionPolicy::On];
 /// Stands for what the demand says of an answer of which it says nothing.

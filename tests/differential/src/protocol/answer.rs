@@ -7,13 +7,10 @@ use crate::manchester::{
     is_better_decode, sample_weight, BestPhaseSearch, BitLengths, IsrDecode, PhaseDecode,
     PhaseSearch, SampleWindow, DECODED_BYTES,
 };
-use crate::protocol::command::{
-    push_byte_string_field, push_hex_field, push_number, push_number_field, push_word, Capture,
-    Command, Operand, Rank,
-};
+use crate::protocol::command::{byte_string, Capture, Command, Operand, Rank};
 use crate::protocol::levels::Levels;
 use crate::rust::line::BenchLine;
-use crate::rust::original::rx_decode::{RxDecode, SniffedDecode, SniffedFrame};
+use crate::rust::original::rx_decode::{RxDecode, SniffedFrame};
 use crate::rust::station::{Call, HalfBits, Station};
 
 const MOST_STEPS: u8 = 5;
@@ -41,176 +38,137 @@ impl Session {
     /// Adds the answer to one line, and its LF; gives the command, and none for a bad line.
     pub fn answer(&mut self, line: &[u8], out: &mut Vec<u8>) -> Option<Command> {
         let command = Command::read(line);
-        match &command {
-            Some(command) => self.answer_command(command, out),
-            None => out.push(b'?'),
-        }
+        let answer = command.as_ref().map(|command| self.answer_to(command));
+        out.extend_from_slice(answer.as_deref().unwrap_or("?").as_bytes());
         out.push(b'\n');
         command
     }
 
-    fn answer_command(&mut self, command: &Command, out: &mut Vec<u8>) {
+    fn answer_to(&mut self, command: &Command) -> String {
         match command {
-            Command::Weight { sample: [sample] } => push_number(out, sample_weight(*sample)),
+            Command::Weight { sample: [sample] } => sample_weight(*sample).text(),
             Command::Phase {
                 max,
                 phase,
                 capture,
-            } => {
-                say(out, "phase");
-                window(capture).decode_phase(*max, *phase).write(out);
-            }
-            Command::Search { mask, capture } => {
-                push_run(out, CountedSearch::new(*mask).run(&window(capture)));
-            }
-            Command::Steps { mask, k, capture } => push_steps(out, *mask, *k, &window(capture)),
+            } => format!(
+                "phase {}",
+                window(capture).decode_phase(*max, *phase).text()
+            ),
+            Command::Search { mask, capture } => CountedSearch::new(*mask).run(&window(capture)),
+            Command::Steps { mask, k, capture } => steps(*mask, *k, &window(capture)),
             Command::BsNew { mask } => {
                 self.search = CountedSearch::new(*mask);
-                say(out, "ok");
+                ok()
             }
             Command::BsStep { capture } => match self.search.step(&window(capture)) {
-                PhaseSearch::Searching => say(out, "searching"),
-                PhaseSearch::Done(None) => say(out, "nothing"),
-                PhaseSearch::Done(Some(decode)) => {
-                    say(out, "found");
-                    decode.write(out);
-                }
+                PhaseSearch::Done(Some(decode)) => format!("found {}", decode.text()),
+                step => step_text(step),
             },
-            Command::BsRun { capture } => push_run(out, self.search.run(&window(capture))),
+            Command::BsRun { capture } => self.search.run(&window(capture)),
             Command::Better {
                 mask,
                 candidate,
                 current,
-            } => {
-                let better = is_better_decode(&ranked(candidate), &ranked(current), lengths(*mask));
-                push_flag(out, better);
-            }
-            Command::Lengths { bytes, n } => push_flag(out, BitLengths::of(bytes).contains(*n)),
-            Command::Sniff { capture } => push_sniffed(out, &event(capture)),
-            Command::SniffDec { found } => push_sniffed(out, &empty_event_that_holds(*found)),
+            } => is_better_decode(&ranked(candidate), &ranked(current), lengths(*mask)).text(),
+            Command::Lengths { bytes, n } => BitLengths::of(bytes).contains(*n).text(),
+            Command::Sniff { capture } => sniffed(&event(capture)),
+            Command::SniffDec { found } => sniffed(&empty_event_that_holds(*found)),
             Command::Backward { capture } => match event(capture).decode_backward_byte() {
-                None => say(out, "none"),
-                Some(byte) => {
-                    say(out, "byte");
-                    [byte].write(out);
-                }
+                None => "none".to_string(),
+                Some(byte) => format!("byte {byte:02x}"),
             },
-            Command::LowRun { capture } => {
-                push_number(out, event(capture).longest_dominant_run_ticks());
-            }
-            Command::Held { capture } => push_flag(out, event(capture).is_line_held()),
+            Command::LowRun { capture } => event(capture).longest_dominant_run_ticks().text(),
+            Command::Held { capture } => event(capture).is_line_held().text(),
             Command::Encode { frame } => match frame.encode() {
-                Ok(half_bits) => push_half_bits(out, &half_bits),
-                Err(refusal) => push_refused(out, refusal as u8),
+                Ok(half_bits) => half_bits.text(),
+                Err(refusal) => refused(refusal as u8),
             },
             Command::EncodeBuf { frame, buffer } => {
                 let mut buffer = buffer.clone();
-                match frame.encode_into(&mut buffer) {
-                    Ok(half_bits) => push_number(out, half_bits),
-                    Err(refusal) => push_refused(out, refusal as u8),
-                }
-                buffer.write(out);
+                let told = match frame.encode_into(&mut buffer) {
+                    Ok(half_bits) => half_bits.text(),
+                    Err(refusal) => refused(refusal as u8),
+                };
+                format!("{told} {}", buffer.text())
             }
-            Command::Settle { ticks, lead } => {
-                push_number(out, settle_ticks_on_wire(*ticks, *lead));
-            }
-            Command::Gate { ticks } => push_number(out, restart_gate_for(*ticks)),
+            Command::Settle { ticks, lead } => settle_ticks_on_wire(*ticks, *lead).text(),
+            Command::Gate { ticks } => restart_gate_for(*ticks).text(),
             Command::New | Command::Tick { .. } | Command::Ticks { .. } | Command::Call(_) => {
-                self.station.answer(command, out);
+                self.station.make(command)
             }
             Command::Line { .. }
             | Command::LineTicks { .. }
             | Command::LineLevel
-            | Command::LineCall { .. } => self.line.answer(command, out),
+            | Command::LineCall { .. } => self.line.make(command),
         }
     }
 }
 
 impl Station {
-    /// Does what a command on the station says and adds the answer; nothing for another command.
-    fn answer(&mut self, command: &Command, out: &mut Vec<u8>) {
+    /// Does what a command on the station says, and gives the answer; nothing for another command.
+    pub fn make(&mut self, command: &Command) -> String {
         match command {
             Command::New => {
                 *self = Self::new();
-                say(out, "ok");
+                ok()
             }
-            Command::Tick { high } => {
-                say(out, "d");
-                self.tick(*high).write(out);
-            }
+            Command::Tick { high } => format!("d {}", self.tick(*high).text()),
             Command::Ticks { levels } => {
                 let driven: Levels = levels.iter().map(|high| self.tick(high)).collect();
-                say(out, "d");
-                push_byte_string_field(out, driven.bytes());
+                format!("d {}", byte_string(driven.bytes()))
             }
-            Command::Call(call) => self.answer_call(call, out),
-            _ => {}
+            Command::Call(call) => self.make_call(call),
+            _ => String::new(),
         }
     }
 
-    /// Does what a command on the station says where its answer isn't wanted.
-    pub fn make(&mut self, command: &Command) {
-        self.answer(command, &mut Vec::new());
-    }
-
-    fn answer_call(&mut self, call: &Call, out: &mut Vec<u8>) {
+    fn make_call(&mut self, call: &Call) -> String {
         match call {
             Call::Policy { policy } => {
                 self.machine.set_collision_policy(*policy);
-                say(out, "ok");
+                ok()
             }
             Call::Start { start, half_bits } => match self.start(*start, half_bits) {
-                None => say(out, "ok"),
-                Some(refusal) => push_refused(out, refusal as u8),
+                None => ok(),
+                Some(refusal) => refused(refusal as u8),
             },
-            Call::Poll => say(out, poll_word(self.machine.poll_tx_state())),
-            Call::TakeIdle => push_flag(out, self.machine.take_idle_after_break()),
+            Call::Poll => poll_word(self.machine.poll_tx_state()).to_string(),
+            Call::TakeIdle => self.machine.take_idle_after_break().text(),
             Call::TakeRx => match self.take_rx() {
-                None => say(out, "none"),
-                Some(event) => {
-                    say(out, "event");
-                    push_event(out, &event);
-                }
+                None => "none".to_string(),
+                Some(event) => format!("event {}", event_text(&event)),
             },
             Call::Ack => {
                 self.machine.acknowledge_rx_frame();
-                say(out, "ok");
+                ok()
             }
-            Call::State => push_state(out, self),
+            Call::State => state_text(self),
         }
     }
 }
 
 impl BenchLine {
-    /// Does what a command on the line says and adds the answer; nothing for another command.
-    fn answer(&mut self, command: &Command, out: &mut Vec<u8>) {
+    /// Does what a command on the line says, and gives the answer; nothing for another command.
+    pub fn make(&mut self, command: &Command) -> String {
         match command {
             Command::Line { stations } => match BenchLine::of(*stations) {
                 Ok(line) => {
                     *self = line;
-                    say(out, "ok");
+                    ok()
                 }
-                Err(refusal) => push_refused(out, refusal as u8),
+                Err(refusal) => refused(refusal as u8),
             },
             Command::LineTicks { ticks } => {
-                say(out, "l");
-                push_byte_string_field(out, self.ticks(*ticks).bytes());
+                format!("l {}", byte_string(self.ticks(*ticks).bytes()))
             }
-            Command::LineLevel => {
-                say(out, "l");
-                self.is_high().write(out);
-            }
+            Command::LineLevel => format!("l {}", self.is_high().text()),
             Command::LineCall { station, call } => match self.station_mut(*station) {
-                Ok(station) => station.answer_call(call, out),
-                Err(refusal) => push_refused(out, refusal as u8),
+                Ok(station) => station.make_call(call),
+                Err(refusal) => refused(refusal as u8),
             },
-            _ => {}
+            _ => String::new(),
         }
-    }
-
-    /// Does what a command on the line says where its answer isn't wanted.
-    pub fn make(&mut self, command: &Command) {
-        self.answer(command, &mut Vec::new());
     }
 }
 
@@ -245,10 +203,14 @@ impl CountedSearch {
     }
 
     /// What the Rust's own `run` finds, and the steps that a copy needs until it is done.
-    fn run(self, window: &SampleWindow) -> (Option<PhaseDecode>, u8) {
+    fn run(self, window: &SampleWindow) -> String {
         let mut stepped = self;
         while stepped.step(window) == PhaseSearch::Searching {}
-        (self.search.run(window), stepped.steps)
+        let steps = stepped.steps;
+        match self.search.run(window) {
+            Some(decode) => format!("found {steps} {}", decode.text()),
+            None => format!("nothing {steps}"),
+        }
     }
 }
 
@@ -262,7 +224,12 @@ fn lengths(mask: u32) -> BitLengths {
 }
 
 fn ranked(rank: &Rank) -> PhaseDecode {
-    rank.with_data([0; DECODED_BYTES])
+    PhaseDecode {
+        bit_len: rank.len,
+        phase_ticks: rank.phase,
+        score: rank.score,
+        data: [0; DECODED_BYTES],
+    }
 }
 
 /// An event with this capture, and no search made of it yet.
@@ -281,99 +248,71 @@ fn empty_event_that_holds(found: Option<PhaseDecode>) -> RxCompletedEvent {
     }
 }
 
-/// The Rust has two calls for a sniffed reading. Were they to part, neither frame could stand for the
-/// Rust's answer, so the run ends there.
-fn sniffed(event: &RxCompletedEvent) -> SniffedDecode {
+fn ok() -> String {
+    "ok".to_string()
+}
+
+fn refused(number: u8) -> String {
+    format!("refused {number}")
+}
+
+fn steps(mask: u32, k: u8, window: &SampleWindow) -> String {
+    let mut search = BestPhaseSearch::new(lengths(mask));
+    let steps = (0..k).map(|_| format!(" | {}", step_text(search.step(window))));
+    format!("steps {k}{}", steps.collect::<String>())
+}
+
+fn step_text(step: PhaseSearch) -> String {
+    match step {
+        PhaseSearch::Searching => "searching".to_string(),
+        PhaseSearch::Done(None) => "nothing".to_string(),
+        PhaseSearch::Done(Some(decode)) => decode.text(),
+    }
+}
+
+/// The Rust has two calls for a sniffed reading. Were they to part, neither frame could stand for the Rust's answer, so the run
+/// ends there.
+fn sniffed(event: &RxCompletedEvent) -> String {
     let decode = event.decode_sniffed_with_phase();
     let frame = event.decode_sniffed();
     assert_eq!(
         frame, decode.frame,
         "the Rust's two calls for a sniffed reading gave different frames"
     );
-    decode
-}
-
-/// The first word of an answer.
-fn say(out: &mut Vec<u8>, word: &str) {
-    out.extend_from_slice(word.as_bytes());
-}
-
-fn push_flag(out: &mut Vec<u8>, flag: bool) {
-    push_number(out, u8::from(flag));
-}
-
-fn push_refused(out: &mut Vec<u8>, number: u8) {
-    say(out, "refused");
-    number.write(out);
-}
-
-fn push_run(out: &mut Vec<u8>, (found, steps): (Option<PhaseDecode>, u8)) {
-    say(out, if found.is_some() { "found" } else { "nothing" });
-    steps.write(out);
-    if let Some(decode) = found {
-        decode.write(out);
-    }
-}
-
-fn push_steps(out: &mut Vec<u8>, mask: u32, k: u8, window: &SampleWindow) {
-    let mut search = BestPhaseSearch::new(lengths(mask));
-    say(out, "steps");
-    k.write(out);
-    for _ in 0..k {
-        push_word(out, "|");
-        match search.step(window) {
-            PhaseSearch::Searching => push_word(out, "searching"),
-            PhaseSearch::Done(None) => push_word(out, "nothing"),
-            PhaseSearch::Done(Some(decode)) => decode.write(out),
-        }
-    }
-}
-
-fn push_sniffed(out: &mut Vec<u8>, event: &RxCompletedEvent) {
-    let decode = sniffed(event);
-    match decode.frame {
-        SniffedFrame::Backward8(byte) => push_frame(out, "B8", &[byte]),
-        SniffedFrame::Forward16(word) => push_frame(out, "F16", &word.to_be_bytes()),
-        SniffedFrame::Forward24(bytes) => push_frame(out, "F24", &bytes),
-        SniffedFrame::UnsupportedLength(length) => {
-            say(out, "LEN");
-            length.write(out);
-        }
-        SniffedFrame::DecodeFailed => push_frame(out, "FAIL", &[]),
-    }
-    decode.phase_ticks.write(out);
-    decode.score.write(out);
-}
-
-fn push_frame(out: &mut Vec<u8>, word: &str, bytes: &[u8]) {
-    say(out, word);
-    push_byte_string_field(out, bytes);
+    let told = match frame {
+        SniffedFrame::Backward8(byte) => format!("B8 {byte:02x}"),
+        SniffedFrame::Forward16(word) => format!("F16 {word:04x}"),
+        SniffedFrame::Forward24(bytes) => format!("F24 {}", bytes.text()),
+        SniffedFrame::UnsupportedLength(length) => format!("LEN {length}"),
+        SniffedFrame::DecodeFailed => "FAIL -".to_string(),
+    };
+    format!("{told} {} {}", decode.phase_ticks, decode.score)
 }
 
 pub fn push_half_bits(out: &mut Vec<u8>, half_bits: &HalfBits) {
-    push_number(out, half_bits.len);
-    push_hex_field(out, &half_bits.data);
+    out.extend_from_slice(half_bits.text().as_bytes());
 }
 
-fn push_state(out: &mut Vec<u8>, station: &Station) {
+fn state_text(station: &Station) -> String {
     let machine = &station.machine;
-    say(out, "state");
-    push_word(out, bus_word(machine.bus_state()));
-    push_word(out, rx_word(machine.rx_state()));
-    machine.line_debouncing().write(out);
-    machine.idle_tick_count().write(out);
-    machine.bus_low_run_ticks().write(out);
-    machine.tx_pre_idle_ticks().write(out);
-    machine.rx_pre_idle_ticks().write(out);
-    station.is_busy().write(out);
-    station.drives_high().write(out);
-    push_event(out, machine.last_rx_event());
+    format!(
+        "state {} {} {} {} {} {} {} {} {} {}",
+        bus_word(machine.bus_state()),
+        rx_word(machine.rx_state()),
+        machine.line_debouncing().text(),
+        machine.idle_tick_count(),
+        machine.bus_low_run_ticks(),
+        machine.tx_pre_idle_ticks(),
+        machine.rx_pre_idle_ticks(),
+        station.is_busy().text(),
+        station.drives_high().text(),
+        event_text(machine.last_rx_event())
+    )
 }
 
-fn push_event(out: &mut Vec<u8>, event: &RxCompletedEvent) {
-    event.sample_count.write(out);
-    push_number_field(out, event.pre_idle_ticks);
-    event.samples.write(out);
+fn event_text(event: &RxCompletedEvent) -> String {
+    let samples = event.samples.text();
+    format!("{} {} {samples}", event.sample_count, event.pre_idle_ticks)
 }
 
 fn poll_word(result: TxPollResult) -> &'static str {

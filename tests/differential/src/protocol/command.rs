@@ -2,10 +2,9 @@
 
 use std::fmt::Display;
 use std::iter::once;
-use std::str::FromStr;
 
 use crate::fsm::CollisionPolicy;
-use crate::manchester::{PhaseDecode, DECODED_BYTES};
+use crate::manchester::PhaseDecode;
 use crate::protocol::levels::Levels;
 use crate::rust::encoder::{Frame, FRAME_BYTES};
 use crate::rust::station::{Call, HalfBits, Start};
@@ -14,6 +13,12 @@ pub const LONGEST_LINE: usize = 2047;
 pub const SAMPLES: usize = 64;
 pub const MOST_TICKS: usize = 4096;
 pub const MOST_STEP_CALLS: u8 = 8;
+
+pub const POLICIES: [CollisionPolicy; 3] = [
+    CollisionPolicy::Auto,
+    CollisionPolicy::Off,
+    CollisionPolicy::On,
+];
 
 #[derive(Clone, PartialEq, Eq)]
 pub struct Capture {
@@ -27,17 +32,6 @@ pub struct Rank {
     pub len: u8,
     pub phase: i8,
     pub score: u16,
-}
-
-impl Rank {
-    pub fn with_data(&self, data: [u8; DECODED_BYTES]) -> PhaseDecode {
-        PhaseDecode {
-            bit_len: self.len,
-            phase_ticks: self.phase,
-            score: self.score,
-            data,
-        }
-    }
 }
 
 /// What a command is asked of.
@@ -87,13 +81,12 @@ macro_rules! commands {
                 }
             }
 
-            fn write_operands(&self, out: &mut Vec<u8>) {
+            fn operands(&self) -> Vec<String> {
                 match self {
-                    $($(Command::$variant $({ $($operand),* })? => { $($($operand.write(out);)*)? })*)*
-                    Command::Call(call) => write_operands_of(call, out),
+                    $($(Command::$variant $({ $($operand),* })? => vec![$($($operand.text()),*)?],)*)*
+                    Command::Call(call) => operands_of(call),
                     Command::LineCall { station, call } => {
-                        station.write(out);
-                        write_operands_of(call, out);
+                        once(station.text()).chain(operands_of(call)).collect()
                     }
                 }
             }
@@ -225,7 +218,9 @@ impl Command {
 
     pub fn write(&self, out: &mut Vec<u8>) {
         out.extend_from_slice(self.name().as_bytes());
-        self.write_operands(out);
+        self.operands()
+            .iter()
+            .for_each(|text| push_field(out, text));
     }
 
     pub fn line(&self) -> Vec<u8> {
@@ -257,31 +252,34 @@ fn read_call(name: &[u8], fields: Fields) -> Option<Call> {
     })
 }
 
-fn write_operands_of(call: &Call, out: &mut Vec<u8>) {
+fn operands_of(call: &Call) -> Vec<String> {
     match call {
-        Call::Policy { policy } => policy.write(out),
-        Call::Start { half_bits, .. } => half_bits.write(out),
-        Call::Poll | Call::TakeIdle | Call::TakeRx | Call::Ack | Call::State => {}
+        Call::Policy { policy } => vec![policy.text()],
+        Call::Start { half_bits, .. } => vec![half_bits.text()],
+        Call::Poll | Call::TakeIdle | Call::TakeRx | Call::Ack | Call::State => Vec::new(),
     }
 }
 
 /// What stands between a line's spaces, from some field on.
 type Fields<'a, 'line> = &'a mut dyn Iterator<Item = &'line [u8]>;
 
-/// One field of a line or more: read from where the line is now, and written with a space before each.
+/// One field of a line or more, as a value: read from where the line is now, and told with a space between two fields.
 pub trait Operand: Sized {
     fn read(fields: Fields) -> Option<Self>;
-    fn write(&self, out: &mut Vec<u8>);
+    fn text(&self) -> String;
 }
 
 macro_rules! decimal_operands {
     ($($number:ty)*) => { $(impl Operand for $number {
+        /// A number is written in one way only.
         fn read(fields: Fields) -> Option<Self> {
-            decimal(fields.next()?)
+            let given = std::str::from_utf8(fields.next()?).ok()?;
+            let number: Self = given.parse().ok()?;
+            (number.text() == given).then_some(number)
         }
 
-        fn write(&self, out: &mut Vec<u8>) {
-            push_number_field(out, *self);
+        fn text(&self) -> String {
+            self.to_string()
         }
     })* };
 }
@@ -295,8 +293,8 @@ macro_rules! joint_operands {
             Some(Self { $($part: Operand::read(fields)?),* })
         }
 
-        fn write(&self, out: &mut Vec<u8>) {
-            $(self.$part.write(out);)*
+        fn text(&self) -> String {
+            [$(self.$part.text()),*].join(" ")
         }
     })* };
 }
@@ -311,35 +309,32 @@ joint_operands! {
 /// A level: high is 1.
 impl Operand for bool {
     fn read(fields: Fields) -> Option<Self> {
-        match u8::read(fields)? {
-            0 => Some(false),
-            1 => Some(true),
+        match fields.next()? {
+            b"0" => Some(false),
+            b"1" => Some(true),
             _ => None,
         }
     }
 
-    fn write(&self, out: &mut Vec<u8>) {
-        u8::from(*self).write(out);
+    fn text(&self) -> String {
+        u8::from(*self).to_string()
     }
 }
-
-const POLICY_WORDS: [(CollisionPolicy, &str); 3] = [
-    (CollisionPolicy::Auto, "auto"),
-    (CollisionPolicy::Off, "off"),
-    (CollisionPolicy::On, "on"),
-];
 
 impl Operand for CollisionPolicy {
     fn read(fields: Fields) -> Option<Self> {
         let given = fields.next()?;
-        let mut words = POLICY_WORDS.into_iter();
-        words.find_map(|(policy, word)| (word.as_bytes() == given).then_some(policy))
+        let mut policies = POLICIES.into_iter();
+        policies.find(|policy| policy.text().as_bytes() == given)
     }
 
-    fn write(&self, out: &mut Vec<u8>) {
-        let mut words = POLICY_WORDS.into_iter();
-        let word = words.find(|(policy, _)| policy == self);
-        push_word(out, word.expect("every policy has a word").1);
+    fn text(&self) -> String {
+        let word = match self {
+            CollisionPolicy::Auto => "auto",
+            CollisionPolicy::Off => "off",
+            CollisionPolicy::On => "on",
+        };
+        word.to_string()
     }
 }
 
@@ -355,11 +350,8 @@ impl Operand for Option<PhaseDecode> {
         PhaseDecode::read(&mut once(first).chain(fields)).map(Some)
     }
 
-    fn write(&self, out: &mut Vec<u8>) {
-        match self {
-            Some(decode) => decode.write(out),
-            None => push_word(out, FOUND_NONE),
-        }
+    fn text(&self) -> String {
+        self.map_or(FOUND_NONE.to_string(), |decode| decode.text())
     }
 }
 
@@ -367,17 +359,16 @@ impl Operand for Option<PhaseDecode> {
 impl Operand for Frame {
     fn read(fields: Fields) -> Option<Self> {
         let bits = Operand::read(fields)?;
-        let mut bytes = [[0]; FRAME_BYTES];
+        let mut bytes = [0; FRAME_BYTES];
         for byte in &mut bytes {
-            *byte = Operand::read(fields)?;
+            [*byte] = Operand::read(fields)?;
         }
-        let bytes = bytes.map(|[byte]| byte);
         Some(Frame { bits, bytes })
     }
 
-    fn write(&self, out: &mut Vec<u8>) {
-        self.bits.write(out);
-        self.bytes.iter().for_each(|byte| [*byte].write(out));
+    fn text(&self) -> String {
+        let [first, second, third] = self.bytes;
+        format!("{} {first:02x} {second:02x} {third:02x}", self.bits)
     }
 }
 
@@ -387,103 +378,91 @@ impl Operand for Levels {
         Levels::of_bytes(bytes, Operand::read(fields)?)
     }
 
-    fn write(&self, out: &mut Vec<u8>) {
-        push_byte_string_field(out, self.bytes());
-        self.ticks().write(out);
+    fn text(&self) -> String {
+        format!("{} {}", byte_string(self.bytes()), self.ticks())
     }
 }
 
-/// A mask, its highest byte first.
+/// A mask.
 impl Operand for u32 {
     fn read(fields: Fields) -> Option<Self> {
         Operand::read(fields).map(u32::from_be_bytes)
     }
 
-    fn write(&self, out: &mut Vec<u8>) {
-        self.to_be_bytes().write(out);
+    fn text(&self) -> String {
+        format!("{self:08x}")
     }
 }
 
 /// Bytes of which the protocol says how many there are.
 impl<const N: usize> Operand for [u8; N] {
     fn read(fields: Fields) -> Option<Self> {
-        hex_bytes(fields.next()?)?.try_into().ok()
+        bytes_of(fields.next()?)?.try_into().ok()
     }
 
-    fn write(&self, out: &mut Vec<u8>) {
-        push_hex_field(out, self);
+    fn text(&self) -> String {
+        hex(self)
     }
 }
 
-/// Bytes of any number, none of them too.
+/// Bytes of any number.
 impl Operand for Vec<u8> {
     fn read(fields: Fields) -> Option<Self> {
         match fields.next()? {
-            NO_BYTES => Some(Vec::new()),
+            b"-" => Some(Vec::new()),
             b"" => None,
-            digits => hex_bytes(digits),
+            digits => bytes_of(digits),
         }
     }
 
-    fn write(&self, out: &mut Vec<u8>) {
-        push_byte_string_field(out, self);
+    fn text(&self) -> String {
+        byte_string(self)
     }
 }
 
-/// A number is written in one way only.
-fn decimal<T: FromStr + ToString>(text: &[u8]) -> Option<T> {
-    let number: T = std::str::from_utf8(text).ok()?.parse().ok()?;
-    (number.to_string().as_bytes() == text).then_some(number)
-}
-
-const NO_BYTES: &[u8] = b"-";
 const DIGITS: &[u8; 16] = b"0123456789abcdef";
 
-fn hex_bytes(digits: &[u8]) -> Option<Vec<u8>> {
-    let digit = |byte: u8| match byte {
-        b'0'..=b'9' => Some(byte - b'0'),
-        b'a'..=b'f' => Some(byte - b'a' + 10),
+fn bytes_of(digits: &[u8]) -> Option<Vec<u8>> {
+    let value = |digit| DIGITS.iter().position(|each| *each == digit);
+    let pairs = digits.chunks(2).map(|pair| match pair {
+        [high, low] => Some((value(*high)? << 4 | value(*low)?) as u8),
         _ => None,
-    };
-    let pairs = digits.chunks(2);
-    pairs
-        .map(|pair| match pair {
-            [high, low] => Some(digit(*high)? << 4 | digit(*low)?),
-            _ => None,
-        })
+    });
+    pairs.collect()
+}
+
+pub fn hex(bytes: &[u8]) -> String {
+    let halves = bytes.iter().flat_map(|byte| [byte >> 4, byte & 15]);
+    halves
+        .map(|half| char::from(DIGITS[usize::from(half)]))
         .collect()
 }
 
-pub fn push_hex(out: &mut Vec<u8>, bytes: &[u8]) {
-    for byte in bytes {
-        out.push(DIGITS[usize::from(byte >> 4)]);
-        out.push(DIGITS[usize::from(byte & 15)]);
+/// Bytes of any number, none of them too.
+pub fn byte_string(bytes: &[u8]) -> String {
+    match bytes {
+        [] => "-".to_string(),
+        _ => hex(bytes),
     }
 }
 
-pub fn push_number(out: &mut Vec<u8>, number: impl Display) {
-    out.extend_from_slice(number.to_string().as_bytes());
+fn push_field(out: &mut Vec<u8>, text: &str) {
+    out.push(b' ');
+    out.extend_from_slice(text.as_bytes());
 }
 
-pub fn push_word(out: &mut Vec<u8>, word: &str) {
-    out.push(b' ');
-    out.extend_from_slice(word.as_bytes());
+pub fn push_hex(out: &mut Vec<u8>, bytes: &[u8]) {
+    out.extend_from_slice(hex(bytes).as_bytes());
 }
 
 pub fn push_hex_field(out: &mut Vec<u8>, bytes: &[u8]) {
-    out.push(b' ');
-    push_hex(out, bytes);
+    push_field(out, &hex(bytes));
 }
 
 pub fn push_byte_string_field(out: &mut Vec<u8>, bytes: &[u8]) {
-    out.push(b' ');
-    match bytes {
-        [] => out.extend_from_slice(NO_BYTES),
-        _ => push_hex(out, bytes),
-    }
+    push_field(out, &byte_string(bytes));
 }
 
 pub fn push_number_field(out: &mut Vec<u8>, number: impl Display) {
-    out.push(b' ');
-    push_number(out, number);
+    push_field(out, &number.to_string());
 }

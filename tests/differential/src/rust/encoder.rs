@@ -66,9 +66,6 @@ pub fn wave(data: &[u8]) -> Levels {
 pub fn half_bits_of(data: &[u8]) -> HalfBits {
     let wave = wave(data);
     let released = repeat_n(HIGH, RELEASED_HALF_BITS * HALF_BIT_TICKS);
-    let mut half_bits = HalfBits::none();
-    for high in wave.iter().chain(released).step_by(HALF_BIT_TICKS) {
-        half_bits.push(high == LOW);
-    }
-    half_bits
+    let halves = wave.iter().chain(released).step_by(HALF_BIT_TICKS);
+    HalfBits::of(&halves.map(|high| high == LOW).collect())
 }

@@ -7,6 +7,7 @@ use std::sync::atomic::Ordering;
 use crate::fsm::{BusState, CollisionPolicy, DaliBitbangPhy, RxCompletedEvent, RxState};
 use crate::halfbits::HalfBitBuffer;
 use crate::platform::hal::BitbangHal;
+use crate::protocol::levels::Levels;
 
 pub const HALF_BIT_BYTES: usize = HalfBitBuffer::DATA_LEN;
 pub const MOST_HALF_BITS: u8 = HalfBitBuffer::MAX_DATA_HALF_BITS;
@@ -39,19 +40,11 @@ pub struct HalfBits {
 }
 
 impl HalfBits {
-    pub fn none() -> Self {
-        Self {
-            len: 0,
-            data: [0; HALF_BIT_BYTES],
-        }
-    }
-
-    pub fn push(&mut self, pulls: bool) {
-        let place = 0x80 >> (self.len % 8);
-        if pulls {
-            self.data[usize::from(self.len / 8)] |= place;
-        }
-        self.len += 1;
+    pub fn of(pulls: &Levels) -> Self {
+        let mut data = [0; HALF_BIT_BYTES];
+        data[..pulls.bytes().len()].copy_from_slice(pulls.bytes());
+        let len = pulls.ticks() as u8;
+        Self { len, data }
     }
 
     pub fn pulls(&self, half_bit: u8) -> bool {

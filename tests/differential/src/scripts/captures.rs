@@ -1,13 +1,12 @@
 //! Captures as stations make them, and as they never should: waves of frames, exact and bent, and bytes that are no wave.
 
-use std::iter::{once, repeat_n};
+use std::iter::once;
 use std::ops::Range;
 
 use crate::protocol::command::{Capture, SAMPLES};
 use crate::protocol::levels::{Levels, HIGH, LOW};
 use crate::random::Random;
 use crate::rust::encoder::HALF_BIT_TICKS;
-use crate::rust::station::Station;
 
 pub const TICKS: usize = 8 * SAMPLES;
 /// A station ends a capture on this many high ticks running.
@@ -53,8 +52,7 @@ pub fn low_run_capture(random: &mut Random) -> Capture {
     let make: fn(&mut Random) -> Capture = random.weighted(&[
         (3, low_runs_alike),
         (2, low_run_at_the_end),
-        (1, low_throughout),
-        (1, low_almost_throughout),
+        (2, low_almost_throughout),
         (1, any_capture),
     ]);
     make(random)
@@ -172,20 +170,9 @@ fn eight_bits_in_a_longer_frame(random: &mut Random) -> Capture {
     bits[8] = true;
     bits[9] = false;
     let mut runs = exact_wave(&bits);
-    let ninth_bit = 9 * 8;
-    let place = place_of(random.pick(&[ninth_bit, ninth_bit + HALF_BIT_TICKS]), &runs);
-    runs[place] += 1;
+    let runs_to_ninth_bit = exact_wave(&bits[..9]).len();
+    runs[runs_to_ninth_bit - random.between(1, 2)] += 1;
     captured(0, &runs)
-}
-
-/// The place of the run that this tick is in.
-fn place_of(tick: usize, runs: &[u8]) -> usize {
-    let mut end = 0;
-    let ends = runs.iter().map(|run| {
-        end += usize::from(*run);
-        end
-    });
-    ends.take_while(|end| *end <= tick).count()
 }
 
 fn two_frames(random: &mut Random) -> Capture {
@@ -248,15 +235,11 @@ fn low_run_at_the_end(random: &mut Random) -> Capture {
     low_capture(count as u16, &[early, from..end + past])
 }
 
-fn low_throughout(random: &mut Random) -> Capture {
-    low_capture(any_count(random, SAMPLES as u16), &[0..TICKS])
-}
-
 fn low_almost_throughout(random: &mut Random) -> Capture {
-    let ticks = random.between(488, TICKS);
+    let least = random.pick(&[488, TICKS]);
+    let ticks = random.between(least, TICKS);
     let from = random.below(TICKS - ticks + 1);
-    let count = random.pick(&[61, 62, 63, 64, 64, 64, 65, 66, 256, 65535]);
-    low_capture(count, &[from..from + ticks])
+    low_capture(any_count(random, SAMPLES as u16), &[from..from + ticks])
 }
 
 /// What an idle station makes of a wave: whole bytes up to the sixteenth high tick after it, and one more.
@@ -280,7 +263,9 @@ fn low_capture(count: u16, lows: &[Range<usize>]) -> Capture {
         ticks[TICKS.min(low.start)..TICKS.min(low.end)].fill(LOW);
     }
     let levels: Levels = ticks.into_iter().collect();
-    samples_capture(count, levels.bytes())
+    let mut samples = [0; SAMPLES];
+    samples.copy_from_slice(levels.bytes());
+    Capture { count, samples }
 }
 
 /// Now and then with another count than a station gives, and with something past it.
@@ -307,58 +292,5 @@ fn any_count(random: &mut Random, natural: u16) -> u16 {
         5 => random.between(62, 66),
         6 => random.pick(&[255, 256, 320, 32767, 32768, 65535]),
         _ => random.any() as u16,
-    }
-}
-
-/// A capture of these first samples, with zeros after them.
-pub fn samples_capture(count: u16, first: &[u8]) -> Capture {
-    let mut samples = [0; SAMPLES];
-    samples[..first.len()].copy_from_slice(first);
-    Capture { count, samples }
-}
-
-// What follows is for the books alone.
-
-/// The capture that an idle station makes of a frame's exact wave.
-pub fn frame_capture(bits: &[bool]) -> Capture {
-    let mut capture = captured(0, &exact_wave(bits));
-    capture.samples[usize::from(capture.count)..].fill(0);
-    capture
-}
-
-/// The same of a wave of which each run of ticks is one too long, one too short, or as long as it should be.
-pub fn jittered_capture(bits: &[bool], random: &mut Random) -> Capture {
-    let mut runs = exact_wave(bits);
-    jitter(&mut runs, random);
-    captured(0, &runs)
-}
-
-/// What an idle station makes of a line that is low for so many ticks: the bytes before the last slot are kept, and there the capture ends
-/// with ones.
-pub fn held_capture(low_ticks: usize) -> Capture {
-    let count = SAMPLES.min((low_ticks + IDLE_TICKS) / 8 + 1);
-    let kept = 8 * (SAMPLES - 1);
-    low_capture(count as u16, &[0..kept.min(low_ticks)])
-}
-
-/// Runs of any length as a station would capture them, or bytes as none would.
-pub fn noise_capture(random: &mut Random) -> Capture {
-    if random.one_in(2) {
-        any_runs(random)
-    } else {
-        any_samples(random)
-    }
-}
-
-/// The capture that an idle station of the Rust makes of these levels, after which the line is idle.
-pub fn heard(levels: impl Iterator<Item = bool>) -> Capture {
-    let mut station = Station::new();
-    for high in levels.chain(repeat_n(HIGH, IDLE_TICKS)) {
-        station.tick(high);
-    }
-    let event = station.last_event();
-    Capture {
-        count: event.sample_count,
-        samples: event.samples,
     }
 }

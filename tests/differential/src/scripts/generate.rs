@@ -2,18 +2,19 @@
 
 use std::collections::VecDeque;
 
-use crate::manchester::PhaseDecode;
-use crate::protocol::command::{part_of, Command, Part, Rank, LONGEST_LINE, NAMES};
+use crate::protocol::command::{hex, part_of, Operand, Part, Rank, LONGEST_LINE, NAMES};
 use crate::random::Random;
 use crate::rust::encoder::{Frame, FRAME_BYTES};
 use crate::scripts::captures::{answer_capture, any_capture, low_run_capture};
 use crate::scripts::line_lines::LineLines;
 use crate::scripts::spoil::spoiled;
-use crate::scripts::station_lines::{Pace, StationLines};
+use crate::scripts::station_lines::StationLines;
 
 const BAD_LINE_IN: usize = 100;
 /// The station's commands that don't hang on its state come this seldom.
 const STATELESS_IN: usize = 180;
+/// The one station has no part in the line; its commands come between the line's this seldom.
+const BESIDE_LINE_IN: usize = 200;
 const SNIFFED: u32 = 1 << 8 | 1 << 16 | 1 << 24;
 
 const DECODERS: &[(usize, &str)] = &[
@@ -36,6 +37,10 @@ const ENCODER: &[(usize, &str)] = &[(1, "encode"), (2, "encodebuf")];
 const STATELESS: &[(usize, &str)] = &[(1, "settle"), (1, "gate")];
 /// Stands for the commands of the kept search, which make sense together alone.
 const KEPT_SEARCH: &str = "bsnew";
+
+macro_rules! operands {
+    ($($operand:expr),*) => { vec![$($operand.text()),*] };
+}
 
 /// What a script holds: a mix of commands and some bad lines, or one kind of command alone.
 #[derive(Clone, Copy, PartialEq, Eq)]
@@ -73,11 +78,11 @@ pub struct Generator {
     random: Random,
     kind: Kind,
     /// The rest of a sequence on the kept search.
-    kept_search: VecDeque<Command>,
+    kept_search: VecDeque<String>,
     station: StationLines,
     line: LineLines,
-    /// A good command, after a bad line that was made of it: so no sequence loses one of its commands.
-    held_back: Option<Command>,
+    /// A good line, after a bad one that was made of it: so no sequence loses one of its commands.
+    held_back: Option<Vec<u8>>,
 }
 
 impl Generator {
@@ -86,10 +91,7 @@ impl Generator {
             random: Random::new(seed),
             kind,
             kept_search: VecDeque::new(),
-            station: StationLines::new(match kind {
-                Kind::StationLong => Pace::Long,
-                _ => Pace::Usual,
-            }),
+            station: StationLines::new(kind == Kind::StationLong),
             line: LineLines::new(),
             held_back: None,
         }
@@ -97,102 +99,71 @@ impl Generator {
 
     /// Adds the next line, without an LF.
     pub fn push_line(&mut self, out: &mut Vec<u8>) {
-        let command = match self.held_back.take() {
-            Some(command) => command,
-            None => self.next(),
-        };
+        let line = self.held_back.take();
+        let line = line.unwrap_or_else(|| self.next());
         let has_bad_lines = !matches!(self.kind, Kind::Only(_));
         if has_bad_lines && self.random.one_in(BAD_LINE_IN) {
-            out.extend_from_slice(&spoiled(&command.line(), &mut self.random));
-            self.held_back = Some(command);
+            out.extend_from_slice(&spoiled(&line, &mut self.random));
+            self.held_back = Some(line);
         } else {
-            command.write(out);
+            out.extend_from_slice(&line);
         }
     }
 
-    fn next(&mut self) -> Command {
-        match self.kind {
-            Kind::Everything => {
-                let part = self.random.below(4);
-                self.next_of([Part::Decoders, Part::Readings, Part::Encoder, Part::Station][part])
-            }
-            Kind::Of(part) => self.next_of(part),
-            Kind::StationLong => self.next_of(Part::Station),
-            Kind::Only(name) => self.any_named(name),
-        }
-    }
-
-    fn next_of(&mut self, part: Part) -> Command {
+    fn next(&mut self) -> Vec<u8> {
         let random = &mut self.random;
+        let part = match self.kind {
+            Kind::Everything => {
+                random.pick(&[Part::Decoders, Part::Readings, Part::Encoder, Part::Station])
+            }
+            Kind::Of(part) => part,
+            Kind::StationLong => Part::Station,
+            Kind::Only(name) => return self.any_named(name).into_bytes(),
+        };
         let names = match part {
-            Part::Decoders if !self.kept_search.is_empty() => return self.next_of_kept_search(),
+            Part::Decoders if !self.kept_search.is_empty() => &[(1, KEPT_SEARCH)],
             Part::Decoders => DECODERS,
             Part::Readings => READINGS,
             Part::Encoder => ENCODER,
             Part::Station if random.one_in(STATELESS_IN) => STATELESS,
-            Part::Station => return self.station.next(random),
-            Part::Line => return self.line.next(random),
+            Part::Station => return self.station.next(random).line(),
+            Part::Line if random.one_in(BESIDE_LINE_IN) => return self.station.next(random).line(),
+            Part::Line => return self.line.next(random).line(),
         };
         let name = random.weighted(names);
-        self.any_named(name)
+        self.any_named(name).into_bytes()
     }
 
-    fn any_named(&mut self, name: &str) -> Command {
+    fn any_named(&mut self, name: &str) -> String {
         let random = &mut self.random;
-        match name {
-            "weight" => Command::Weight {
-                sample: [random.byte()],
-            },
-            "phase" => Command::Phase {
-                max: any_maximum(random),
-                phase: any_phase(random),
-                capture: any_capture(random),
-            },
-            "search" => Command::Search {
-                mask: any_mask(random),
-                capture: any_capture(random),
-            },
-            "steps" => Command::Steps {
-                mask: any_mask(random),
-                k: any_step_count(random),
-                capture: any_capture(random),
-            },
-            "better" => any_better(random),
+        let operands: Vec<String> = match name {
+            "weight" => operands![[random.byte()]],
+            "phase" => operands![any_maximum(random), any_phase(random), any_capture(random)],
+            "search" => operands![any_mask(random), any_capture(random)],
+            "steps" => operands![
+                any_mask(random),
+                any_step_count(random),
+                any_capture(random)
+            ],
+            "better" => any_two_decodes(random),
             "lengths" => any_lengths(random),
-            "sniff" => Command::Sniff {
-                capture: any_capture(random),
-            },
-            "sniffdec" => Command::SniffDec {
-                found: any_found(random),
-            },
-            "backward" => Command::Backward {
-                capture: answer_capture(random),
-            },
-            "lowrun" => Command::LowRun {
-                capture: low_run_capture(random),
-            },
-            "held" => Command::Held {
-                capture: low_run_capture(random),
-            },
-            "encode" => Command::Encode {
-                frame: any_unencoded(random),
-            },
+            "sniff" => operands![any_capture(random)],
+            "sniffdec" => vec![any_found(random)],
+            "backward" => operands![answer_capture(random)],
+            "lowrun" | "held" => operands![low_run_capture(random)],
+            "encode" => operands![any_unencoded(random)],
             "encodebuf" => any_encoding_into(random),
-            "settle" => Command::Settle {
-                ticks: any_wide(random),
-                lead: any_narrow(random),
-            },
-            "gate" => Command::Gate {
-                ticks: any_narrow(random),
-            },
-            _ => self.next_of_kept_search(),
-        }
+            "settle" => operands![any_wide(random), any_narrow(random)],
+            "gate" => operands![any_narrow(random)],
+            _ => return self.next_of_kept_search(),
+        };
+        format!("{name} {}", operands.join(" "))
     }
 
-    fn next_of_kept_search(&mut self) -> Command {
+    fn next_of_kept_search(&mut self) -> String {
         loop {
             match self.kept_search.pop_front() {
-                Some(command) => return command,
+                Some(line) => return line,
                 None => self.queue_kept_search(),
             }
         }
@@ -201,17 +172,15 @@ impl Generator {
     /// Steps, past Done and past the fifth too, with runs between. Now and then they go on where an earlier sequence left the search.
     fn queue_kept_search(&mut self) {
         let random = &mut self.random;
-        let same = random.one_in(2).then(|| any_capture(random));
         if !random.one_in(10) {
-            let mask = any_mask(random);
-            self.kept_search.push_back(Command::BsNew { mask });
+            let mask = any_mask(random).text();
+            self.kept_search.push_back(format!("bsnew {mask}"));
         }
+        let same = random.one_in(2).then(|| any_capture(random));
         for _ in 0..random.between(0, 11) {
-            let capture = same.clone().unwrap_or_else(|| any_capture(random));
-            self.kept_search.push_back(match random.below(4) {
-                0 => Command::BsRun { capture },
-                _ => Command::BsStep { capture },
-            });
+            let capture = same.clone().unwrap_or_else(|| any_capture(random)).text();
+            let word = random.weighted(&[(3, "bsstep"), (1, "bsrun")]);
+            self.kept_search.push_back(format!("{word} {capture}"));
         }
     }
 }
@@ -262,9 +231,8 @@ fn any_rank(random: &mut Random) -> Rank {
     }
 }
 
-/// Two decodes that are mostly equal in something.
-fn any_better(random: &mut Random) -> Command {
-    let mask = any_mask(random);
+/// A mask, and two decodes that are mostly equal in something.
+fn any_two_decodes(random: &mut Random) -> Vec<String> {
     let candidate = any_rank(random);
     let mut current = any_rank(random);
     if random.one_in(2) {
@@ -285,11 +253,7 @@ fn any_better(random: &mut Random) -> Command {
         3 => current.score,
         _ => candidate.score,
     };
-    Command::Better {
-        mask,
-        candidate,
-        current,
-    }
+    operands![any_mask(random), candidate, current]
 }
 
 /// A frame's length most of the time, or about one.
@@ -325,7 +289,7 @@ fn any_narrow(random: &mut Random) -> u8 {
     }
 }
 
-fn any_lengths(random: &mut Random) -> Command {
+fn any_lengths(random: &mut Random) -> Vec<String> {
     let most = random.weighted(&[(6, 6), (1, 200), (1, 1018)]);
     let size = random.between(0, most);
     let mut bytes = random.bytes(size);
@@ -338,7 +302,7 @@ fn any_lengths(random: &mut Random) -> Command {
         2.. if !bytes.is_empty() => random.pick(&bytes),
         _ => any_listed_length(random),
     };
-    Command::Lengths { bytes, n }
+    operands![bytes, n]
 }
 
 /// The set has room for 0 to 31.
@@ -350,9 +314,11 @@ fn any_listed_length(random: &mut Random) -> u8 {
 }
 
 /// What a search may have found, and what none finds.
-fn any_found(random: &mut Random) -> Option<PhaseDecode> {
-    let data = random.any().to_be_bytes();
-    (!random.one_in(12)).then(|| any_rank(random).with_data(data))
+fn any_found(random: &mut Random) -> String {
+    match random.below(12) {
+        0 => "none".to_string(),
+        _ => format!("{} {}", any_rank(random).text(), hex(&random.bytes(8))),
+    }
 }
 
 fn any_unencoded(random: &mut Random) -> Frame {
@@ -369,26 +335,16 @@ fn any_unencoded(random: &mut Random) -> Frame {
 }
 
 /// The buffer has mostly about the seven bytes that are needed, and at the most what a line has room for.
-fn any_encoding_into(random: &mut Random) -> Command {
-    let frame = any_unencoded(random);
-    let empty = Vec::new();
-    // No bytes are written as one dash.
-    let other_fields = Command::EncodeBuf {
-        frame,
-        buffer: empty,
-    }
-    .line()
-    .len()
-        - 1;
-    let most = (LONGEST_LINE - other_fields) / 2;
+fn any_encoding_into(random: &mut Random) -> Vec<String> {
+    let frame = any_unencoded(random).text();
+    let room = (LONGEST_LINE - "encodebuf  ".len() - frame.len()) / 2;
     let [least, most] = random.weighted(&[
-        (1, [most - 2, most]),
-        (1, [0, most]),
+        (1, [room - 2, room]),
+        (1, [0, room]),
         (2, [0, 300]),
         (16, [0, 20]),
         (20, [5, 9]),
     ]);
     let size = random.between(least, most);
-    let buffer = random.bytes(size);
-    Command::EncodeBuf { frame, buffer }
+    vec![frame, random.bytes(size).text()]
 }

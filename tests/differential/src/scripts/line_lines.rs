@@ -2,7 +2,7 @@
 
 use crate::fsm::BusState;
 use crate::protocol::command::Command;
-use crate::protocol::levels::{Levels, LOW};
+use crate::protocol::levels::Levels;
 use crate::random::Random;
 use crate::rust::encoder::half_bits_of;
 use crate::rust::line::{BenchLine, MOST_STATIONS};
@@ -44,11 +44,9 @@ impl Bench for BenchLine {
     }
 
     fn question(random: &mut Random) -> Command {
-        match random.below(8) {
-            0..=2 => Command::LineLevel,
-            3..=5 => Command::LineTicks { ticks: 0 },
-            6 => beside_the_line(random),
-            _ => new_line(random),
+        match random.below(2) {
+            0 => Command::LineLevel,
+            _ => Command::LineTicks { ticks: 0 },
         }
     }
 
@@ -94,25 +92,14 @@ impl LineLines {
         });
     }
 
-    /// All the numbers, in any order.
-    fn mixed_stations(&self, random: &mut Random) -> Vec<u8> {
-        let mut stations: Vec<u8> = (0..self.count()).collect();
-        for at in (1..stations.len()).rev() {
-            stations.swap(at, random.below(at + 1));
-        }
-        stations
-    }
-
     /// One station starts or more, between the same two ticks or one after the other.
     fn send(&mut self, random: &mut Random) {
         self.come_to_rest(random);
         let stores = any_stores(random);
-        let senders = random.pick(&[1, 2, 2, 2, 3, 4]);
+        let senders = self.count().min(random.pick(&[1, 2, 2, 2, 3, 4]));
+        let first = self.station(random);
         let together = random.one_in(2);
-        for (number, sender) in self.mixed_stations(random).into_iter().enumerate() {
-            if number == senders {
-                break;
-            }
+        for number in 0..senders {
             if number > 0 && !together {
                 // The first half-bit is driven on the fourth tick, and who is armed on the next yields to it.
                 let [least, most] = random.pick(&[[1, 240], [2, 5], [2, 5], [0, 10], [0, 10]]);
@@ -120,8 +107,9 @@ impl LineLines {
             }
             let half_bits = match random.below(8) {
                 0 => any_half_bits(random),
-                _ => stores[number % 2],
+                _ => stores[usize::from(number % 2)],
             };
+            let sender = (first + number) % self.count();
             self.start(sender, any_start(random), half_bits, random);
         }
         self.go_on(random.between(40, 280), random);
@@ -204,19 +192,6 @@ fn new_line(random: &mut Random) -> Command {
         _ => random.pick(&[1, 2, 2, 3, 3, 4, 4]),
     };
     Command::Line { stations }
-}
-
-/// The one station has no part in the line.
-fn beside_the_line(random: &mut Random) -> Command {
-    match random.below(4) {
-        0 => Command::New,
-        1 => Command::Tick { high: LOW },
-        2 => Command::Call(Call::Start {
-            start: any_start(random),
-            half_bits: any_half_bits(random),
-        }),
-        _ => Command::Call(Call::State),
-    }
 }
 
 /// Two stores of which one differs from the other in frame, bit or half-bit, or not at all.

@@ -3,19 +3,13 @@
 
 use std::collections::VecDeque;
 
-use crate::fsm::{BusState, CollisionPolicy};
-use crate::protocol::command::{Command, MOST_TICKS};
+use crate::fsm::BusState;
+use crate::protocol::command::{Command, MOST_TICKS, POLICIES};
 use crate::protocol::levels::Levels;
 use crate::random::Random;
 use crate::rust::encoder::half_bits_of;
 use crate::rust::station::{Call, HalfBits, Start, Station, MOST_HALF_BITS};
 use crate::scripts::others::any_frame;
-
-pub const POLICIES: [CollisionPolicy; 3] = [
-    CollisionPolicy::Auto,
-    CollisionPolicy::Off,
-    CollisionPolicy::On,
-];
 
 /// One station that others pull about, or a line of stations.
 pub trait Bench: Sized {
@@ -139,9 +133,9 @@ impl<B: Bench> Sequences<B> {
             let call = random.weighted(&[
                 (9, Call::State),
                 (6, Call::Poll),
-                (2, Call::TakeIdle),
+                (3, Call::TakeIdle),
                 (4, Call::TakeRx),
-                (1, Call::Ack),
+                (2, Call::Ack),
             ]);
             self.call(self.station(random), call);
         }

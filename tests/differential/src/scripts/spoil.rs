@@ -1,20 +1,10 @@
 //! Good lines made bad, in each of the ways that a line can be bad.
 
-use crate::protocol::command::{push_byte_string_field, Command, LONGEST_LINE, MOST_TICKS, NAMES};
+use crate::protocol::command::{Command, Operand, LONGEST_LINE, MOST_TICKS, NAMES};
 use crate::random::Random;
 
-const OUT_OF_RANGE: [&[u8]; 10] = [
-    b"256",
-    b"4097",
-    b"65536",
-    b"65792",
-    b"-129",
-    b"128",
-    b"100000",
-    b"4294967296",
-    b"18446744073709551616",
-    b"",
-];
+/// Numbers that some operand or every one has no room for.
+const OUT_OF_RANGE: &str = "256 4097 65536 65792 -129 128 100000 4294967296 18446744073709551616";
 
 pub fn spoiled(line: &[u8], random: &mut Random) -> Vec<u8> {
     loop {
@@ -42,7 +32,10 @@ fn spoiled_somehow(line: &[u8], random: &mut Random) -> Vec<u8> {
         6 => fields[last].fill(b'A'),
         7 => fields[one].insert(0, random.pick(b"0+-")),
         8 => fields[one] = b"-0".to_vec(),
-        9 => fields[one] = random.pick(&OUT_OF_RANGE).to_vec(),
+        9 => {
+            let numbers: Vec<&str> = OUT_OF_RANGE.split(' ').collect();
+            fields[one] = random.pick(&numbers).into();
+        }
         10 => drop(fields[last].pop()),
         11 => {
             let kept = fields[last].len().saturating_sub(2);
@@ -91,10 +84,7 @@ fn ticks_that_do_not_fit(random: &mut Random) -> Vec<u8> {
         _ => random.between(0, 40),
     };
     let bytes = (ticks.div_ceil(8) + random.below(3)).saturating_sub(1);
-    let mut line = b"ticks".to_vec();
-    push_byte_string_field(&mut line, &random.bytes(bytes));
-    line.extend_from_slice(format!(" {ticks}").as_bytes());
-    line
+    format!("ticks {} {ticks}", random.bytes(bytes).text()).into_bytes()
 }
 
 fn over_long(line: &[u8], random: &mut Random) -> Vec<u8> {

@@ -12,15 +12,9 @@ use crate::scripts::sequences::{all_are, all_are_idle, Bench, Sequences};
 /// The one station's number, which its commands don't say.
 const IT: u8 = 0;
 
-/// Whether the ticks come in lines of all lengths, or mostly in long ones.
-#[derive(Clone, Copy, PartialEq, Eq)]
-pub enum Pace {
-    Usual,
-    Long,
-}
-
 pub struct LoneStation {
-    pace: Pace,
+    /// Whether most ticks come in long lines, or lines are of all lengths.
+    ticks_are_long: bool,
     station: Station,
     others: Others,
     /// Whether the level that the station drives is among those that make up its line.
@@ -30,9 +24,9 @@ pub struct LoneStation {
 pub type StationLines = Sequences<LoneStation>;
 
 impl StationLines {
-    pub fn new(pace: Pace) -> Self {
+    pub fn new(ticks_are_long: bool) -> Self {
         Sequences::on(LoneStation {
-            pace,
+            ticks_are_long,
             station: Station::new(),
             others: Others::default(),
             hears_itself: true,
@@ -117,9 +111,10 @@ impl Bench for LoneStation {
             sequences.give_policy(IT, random);
         }
         sequences.bench.hears_itself = !random.one_in(4);
-        let long_run_in = match sequences.bench.pace {
-            Pace::Usual => 30,
-            Pace::Long => 8,
+        let long_run_in = if sequences.bench.ticks_are_long {
+            8
+        } else {
+            30
         };
         match random.below(40) {
             0 if random.one_in(long_run_in) => sequences.hear_nothing_new(random),
@@ -198,25 +193,19 @@ impl LoneStation {
 }
 
 impl StationLines {
-    /// How many ticks come before the next call.
-    fn stretch(&self, random: &mut Random) -> usize {
-        let [least, most] = match self.bench.pace {
-            Pace::Usual => random.weighted(&[
-                (1, [0, 3]),
-                (4, [1, 16]),
-                (5, [16, 80]),
-                (1, [80, 300]),
-                (1, [300, 700]),
-            ]),
-            Pace::Long => random.weighted(&[(2, [0, 40]), (1, [40, 400]), (9, [1000, MOST_TICKS])]),
+    fn run_a_stretch(&mut self, random: &mut Random) {
+        let [least, most] = if self.bench.ticks_are_long {
+            random.weighted(&[(2, [0, 40]), (1, [40, 400]), (9, [1000, MOST_TICKS])])
+        } else {
+            random.weighted(&[(1, [0, 3]), (4, [1, 16]), (5, [16, 80]), (2, [80, 700])])
         };
-        random.between(least, most)
+        self.run(random.between(least, most), random);
     }
 
     fn listen(&mut self, random: &mut Random) {
         self.bench.others.are_busy = true;
         for _ in 0..random.between(1, 5) {
-            self.run(self.stretch(random), random);
+            self.run_a_stretch(random);
             self.ask(random);
         }
     }
@@ -225,15 +214,15 @@ impl StationLines {
     fn send(&mut self, random: &mut Random) {
         let is_reached = self.bench.plan_moment(random);
         self.run_until(1000, random, is_reached);
-        let later = random.pick(&[0, 0, 3, 40, 120, 600]);
+        let later = random.weighted(&[(7, 0), (1, 3), (2, 40), (2, 120), (1, 600)]);
         self.run(random.between(0, later), random);
         self.start_anything(IT, random);
         self.ask(random);
         self.go_on(random.between(20, 260), random);
-        match self.bench.pace {
-            Pace::Usual if random.one_in(3) => self.capture_something_short(random),
-            Pace::Usual => {}
-            Pace::Long => self.run(self.stretch(random), random),
+        if self.bench.ticks_are_long {
+            self.run_a_stretch(random);
+        } else if random.one_in(3) {
+            self.capture_something_short(random);
         }
     }
 
