@@ -280,7 +280,7 @@ fn call_holds(random: &mut Random, tally: &mut Tally) -> bool {
     let (mut left, [rust_answer, answer]) = match call {
         0 => told!(it: port.start_tx(given) => rust.start_tx(&lent), it.answer == Started),
         1 => told!(it: port.start_answer(given) => rust.start_answer(&lent), it.answer == Started),
-        2 => told!(it: port.poll_tx_state() => rust.poll_tx_state(), it.answer),
+        2 => told!(it: port.poll_tx_state() => rust.poll_tx_state() as u8, it.answer as u8),
         3 => told!(it: port.take_idle_after_break() => rust.take_idle_after_break(), it.idle),
         4 => told!(it: port.take_completed_rx_event() =>
             rust.take_completed_rx_event(), it.completed.then_some(it.event)),

@@ -7,7 +7,7 @@ use std::process::Stdio;
 use std::sync::Arc;
 use std::time::Instant;
 
-use crate::books::books::{book, Kind};
+use crate::books::books::{book, DAMAGED, MIXED};
 use crate::books::reader::{answers, MOST_LINES};
 use crate::random::Random;
 use crate::runs::program::{first_difference, printable, Difference, Run};
@@ -39,8 +39,8 @@ pub struct Trial {
 }
 
 impl Trial {
-    pub fn whole(name: String, book: Vec<u8>) -> Self {
-        let cuts = Vec::new();
+    pub fn whole(name: impl Into<String>, book: Vec<u8>) -> Self {
+        let (name, cuts) = (name.into(), Vec::new());
         Self { name, book, cuts }
     }
 
@@ -69,24 +69,17 @@ pub fn run(task: &Task) -> io::Result<bool> {
         }
     }
     let places = places(task.edges.len(), task.cuts);
-    for trial in limit_trials()
-        .into_iter()
-        .chain(edge_trials(&task.edges, &places))
-    {
+    for trial in edge_trials(&task.edges, &places).chain(limit_trials()) {
         if trial.answers(&task.program)?.is_none() {
             return Ok(false);
         }
     }
-    let told: Vec<String> = tally
-        .iter()
-        .map(|(kind, lines)| format!("{kind} {lines}"))
-        .collect();
-    let (seed, lines, told) = (task.seed, task.lines, told.join(", "));
+    let (seed, lines) = (task.seed, task.lines);
     let (places, sizes) = (places.len(), PIECES.len());
     let seconds = began.elapsed().as_secs_f64();
     println!(
-        "seed {seed}: {lines} lines at random ({told}), books at the limits, and the edge book with {places} beginnings and as many cuts of \
-         it and in pieces of {sizes} sizes in {seconds:.1} s, no difference"
+        "seed {seed}: {lines} lines at random {tally:?}, the edge book with {places} beginnings and as many cuts of it and in pieces \
+         of {sizes} sizes, and three books at the limits in {seconds:.1} s, no difference"
     );
     Ok(true)
 }
@@ -95,16 +88,14 @@ pub fn run(task: &Task) -> io::Result<bool> {
 fn random_trials(task: &Task) -> impl Iterator<Item = Trial> + '_ {
     let mut seeds = Random::new(task.seed);
     let batch = task.batch.min(task.lines.div_ceil(2));
-    let kinds = [("mixed", Kind::Mixed), ("damaged", Kind::Damaged)];
     let begun = (0..task.lines).step_by(batch);
-    begun
-        .zip(kinds.into_iter().cycle())
-        .map(move |(from, (name, kind))| {
-            let lines = batch.min(task.lines - from);
-            let seed = seeds.any();
-            let name = format!("book --lines {lines} --kind {name} --seed {seed}");
-            Trial::whole(name, book(seed, kind, lines))
-        })
+    let kinds = [MIXED, DAMAGED].into_iter().cycle();
+    begun.zip(kinds).map(move |(from, kind)| {
+        let lines = batch.min(task.lines - from);
+        let seed = seeds.any();
+        let name = format!("book --lines {lines} --kind {} --seed {seed}", kind.0);
+        Trial::whole(name, book(seed, kind, lines))
+    })
 }
 
 /// The greatest number of lines, with and without more after them, and lines that no memory need hold.
@@ -115,12 +106,11 @@ fn limit_trials() -> [Trial; 3] {
     let more = [&most[..], b"\n", good, b"\n", good].concat();
     let long = vec![b'f'; LONG_LINE];
     let long_lines = [&long[..], b"\n", good, b"\n", &long].concat();
-    let named = [
-        ("999,999 lines", most),
-        ("1,000,001 lines", more),
-        ("long lines", long_lines),
-    ];
-    named.map(|(name, book)| Trial::whole(name.to_string(), book))
+    [
+        Trial::whole("999,999 lines", most),
+        Trial::whole("1,000,001 lines", more),
+        Trial::whole("long lines", long_lines),
+    ]
 }
 
 /// The places at which the edge book is begun and cut: every byte, or so many of them, apart alike.
@@ -129,23 +119,25 @@ fn places(length: usize, cuts: Option<usize>) -> Vec<usize> {
     (0..cuts).map(|cut| cut * length / cuts).collect()
 }
 
-/// The edge book in pieces; each beginning of it as a book of its own, and so none of it; and all of it in two parts.
+/// Each beginning of the edge book as a book of its own, and so none of it; and all of it in pieces and in two parts.
 fn edge_trials<'a>(edges: &'a [u8], places: &'a [usize]) -> impl Iterator<Item = Trial> + 'a {
-    let pieces = PIECES.iter().map(|piece| Trial {
-        name: format!("the edge book in pieces of {piece} bytes"),
-        book: edges.to_vec(),
-        cuts: (*piece..edges.len()).step_by(*piece).collect(),
-    });
-    let begun = places.iter().map(|place| {
+    let beginnings = places.iter().map(|place| {
         let name = format!("the edge book's first {place} bytes");
         Trial::whole(name, edges[..*place].to_vec())
     });
-    let cut = places.iter().map(|place| Trial {
-        name: format!("the edge book cut after {place} bytes"),
+    let pieces = PIECES.map(|piece| (piece..edges.len()).step_by(piece).collect());
+    let cuts = places.iter().map(|place| vec![*place]);
+    let all_cuts = pieces.into_iter().chain(cuts);
+    let in_parts = all_cuts.map(|cuts: Vec<usize>| Trial {
+        name: format!(
+            "the edge book, {} cuts from {:?} on",
+            cuts.len(),
+            cuts.first()
+        ),
         book: edges.to_vec(),
-        cuts: vec![*place],
+        cuts,
     });
-    pieces.chain(begun).chain(cut)
+    beginnings.chain(in_parts)
 }
 
 /// The book that printf's %b makes of a stored text without its last LF. A backslash stands there only before 0 and three octal digits.
@@ -161,33 +153,23 @@ pub fn unescaped(text: &str) -> Option<Vec<u8>> {
 }
 
 fn report(name: &str, book: &[u8], difference: &Difference) {
-    let lines: Vec<&[u8]> = book.split(|byte| *byte == b'\n').collect();
-    let line = match lines.get(difference.line) {
-        Some(line) if difference.line + 1 < lines.len() || !line.is_empty() => line,
-        _ => &b"(the book's end)"[..],
-    };
+    let mut lines = book.split(|byte| *byte == b'\n');
+    let line = lines.nth(difference.line).unwrap_or_default();
+    let shown = |text: &[u8]| printable(&text[..text.len().min(MOST_SHOWN)]);
     println!("DIFFERENCE on line {} of {name}", difference.line + 1);
-    println!("  line, {} bytes: {}", line.len(), beginning(line));
-    println!("  independent reader: {}", beginning(&difference.expected));
-    println!("  program: {}", beginning(&difference.told));
-}
-
-fn beginning(text: &[u8]) -> String {
-    match text.get(..MOST_SHOWN) {
-        Some(shown) => printable(shown) + " ...",
-        None => printable(text),
-    }
+    println!("  line, {} bytes: {}", line.len(), shown(line));
+    println!("  independent reader: {}", shown(&difference.expected));
+    println!("  program: {}", shown(&difference.told));
 }
 
 /// Counts answers by what they tell, and refusals by their number.
 fn count(answers: &[u8], tally: &mut BTreeMap<String, usize>) {
     for answer in String::from_utf8_lossy(answers).lines() {
-        let mut fields = answer.split('\t');
-        let kind = match (fields.next(), fields.next(), fields.next()) {
-            (Some("END"), ..) => continue,
-            (_, Some("BAD"), Some(number)) => format!("BAD {number}"),
-            (_, kind, _) => kind.unwrap_or_default().to_string(),
-        };
-        *tally.entry(kind).or_default() += 1;
+        let fields: Vec<&str> = answer.split('\t').collect();
+        match fields[..] {
+            ["END", ..] => {}
+            [_, "BAD", number] => *tally.entry(format!("BAD {number}")).or_default() += 1,
+            _ => *tally.entry(fields[1].to_string()).or_default() += 1,
+        }
     }
 }

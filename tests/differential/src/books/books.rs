@@ -1,55 +1,43 @@
 //! Books of captures for the bench reader, made from a seed: clean ones, ones as a bench has them, and ones that are mostly damaged.
 
 use crate::books::damage::{any_bad_line, damage};
-use crate::books::waves::{exact_runs, put_every_run_off, Listener};
+use crate::books::waves::{exact_runs, put_every_run_off, samples_of, Listener};
 use crate::fsm::DALI_RX_SAMPLE_BUF_LEN;
 use crate::random::Random;
 use crate::scripts::captures::any_capture;
 
+/// Its name, and how many lines of ten are damaged.
 #[derive(Clone, Copy, PartialEq, Eq)]
-pub enum Kind {
-    /// Frames of 8, 16 and 24 bits, exactly as they are sent.
-    Clean,
-    /// All that a bench hears, and every fifth line damaged.
-    Mixed,
-    /// The same, and nine of ten lines damaged.
-    Damaged,
-}
+pub struct Kind(pub &'static str, usize);
+
+/// Frames of 8, 16 and 24 bits, exactly as they are sent.
+const CLEAN: Kind = Kind("clean", 0);
+/// All that a bench hears, and damage.
+pub const MIXED: Kind = Kind("mixed", 2);
+pub const DAMAGED: Kind = Kind("damaged", 9);
+/// The bits of a frame.
+const FRAMES: [usize; 4] = [8, 16, 16, 24];
 
 impl Kind {
     pub fn named(name: &str) -> Option<Self> {
-        match name {
-            "clean" => Some(Self::Clean),
-            "mixed" => Some(Self::Mixed),
-            "damaged" => Some(Self::Damaged),
-            _ => None,
-        }
-    }
-
-    fn damaged_of_ten(self) -> usize {
-        match self {
-            Self::Clean => 0,
-            Self::Mixed => 2,
-            Self::Damaged => 9,
-        }
+        let mut kinds = [CLEAN, MIXED, DAMAGED].into_iter();
+        kinds.find(|kind| kind.0 == name)
     }
 }
 
 /// The last line of a book that isn't clean may lack its LF if it has a byte; without one it would be no line.
 pub fn book(seed: u64, kind: Kind, lines: usize) -> Vec<u8> {
-    let mut bench = Bench {
-        random: Random::new(seed),
-        listener: Listener::new(),
-    };
+    let mut random = Random::new(seed);
+    let mut listener = Listener::new();
     let mut text = Vec::with_capacity(80 * lines);
     let mut may_lack_lf = false;
     for _ in 0..lines {
-        let line = bench.line(kind);
-        may_lack_lf = kind != Kind::Clean && !line.is_empty();
+        let line = any_line(kind, &mut random, &mut listener);
+        may_lack_lf = kind != CLEAN && !line.is_empty();
         text.extend(line);
         text.push(b'\n');
     }
-    if may_lack_lf && bench.random.one_in(2) {
+    if may_lack_lf && random.one_in(2) {
         text.pop();
     }
     text
@@ -58,61 +46,43 @@ pub fn book(seed: u64, kind: Kind, lines: usize) -> Vec<u8> {
 /// A good line.
 pub fn record(silence: u8, samples: &[u8]) -> Vec<u8> {
     let mut line = format!("C\t{silence}\t{}\t", samples.len()).into_bytes();
-    for sample in samples {
-        line.extend(
-            [sample >> 4, sample & 15].map(|digit| b"0123456789abcdef"[usize::from(digit)]),
-        );
+    for digit in samples.iter().flat_map(|sample| [sample >> 4, sample & 15]) {
+        line.push(b"0123456789abcdef"[usize::from(digit)]);
     }
     line
 }
 
-struct Bench {
-    random: Random,
-    listener: Listener,
+fn any_line(kind: Kind, random: &mut Random, listener: &mut Listener) -> Vec<u8> {
+    let is_damaged = random.below(10) < kind.1;
+    if is_damaged && random.one_in(6) {
+        return any_bad_line(random);
+    }
+    let samples = match kind {
+        CLEAN => heard(&exact_runs(&any_bits(&FRAMES, random)), listener),
+        _ if random.one_in(5) => as_no_station_has_them(random),
+        _ => heard(&any_runs(random), listener),
+    };
+    let mut line = record(any_silence(random), &samples);
+    if is_damaged {
+        damage(&mut line, random);
+    }
+    line
 }
 
-impl Bench {
-    fn line(&mut self, kind: Kind) -> Vec<u8> {
-        let is_damaged = self.random.below(10) < kind.damaged_of_ten();
-        if is_damaged && self.random.one_in(6) {
-            return any_bad_line(&mut self.random);
-        }
-        let samples = match kind {
-            Kind::Clean => {
-                let runs = exact_runs(&any_frame(&mut self.random));
-                self.heard(&runs)
-            }
-            Kind::Mixed | Kind::Damaged => self.any_samples(),
-        };
-        let mut line = record(any_silence(&mut self.random), &samples);
-        if is_damaged {
-            damage(&mut line, &mut self.random);
-        }
-        line
-    }
+fn as_no_station_has_them(random: &mut Random) -> Vec<u8> {
+    let capture = any_capture(random);
+    let count = DALI_RX_SAMPLE_BUF_LEN.min(usize::from(capture.count));
+    capture.samples[..count].to_vec()
+}
 
-    /// Of a wave that a station hears, or as none has them.
-    fn any_samples(&mut self) -> Vec<u8> {
-        if self.random.one_in(5) {
-            let capture = any_capture(&mut self.random);
-            let count = DALI_RX_SAMPLE_BUF_LEN.min(usize::from(capture.count));
-            return capture.samples[..count].to_vec();
-        }
-        let runs = any_runs(&mut self.random);
-        self.heard(&runs)
-    }
-
-    fn heard(&mut self, runs: &[usize]) -> Vec<u8> {
-        match self.listener.hear(runs) {
-            Some(event) => event.samples[..usize::from(event.sample_count)].to_vec(),
-            None => Vec::new(),
-        }
-    }
+fn heard(runs: &[usize], listener: &mut Listener) -> Vec<u8> {
+    let event = listener.hear(runs);
+    event.map_or(Vec::new(), |event| samples_of(&event).to_vec())
 }
 
 /// A frame that is exact or uneven, or one of few bits; noise; a line that is held; or two senders that clash.
 fn any_runs(random: &mut Random) -> Vec<usize> {
-    let mut runs = exact_runs(&any_frame(random));
+    let mut runs = exact_runs(&any_bits(&FRAMES, random));
     match random.below(12) {
         0..=4 => {}
         5..=7 => put_every_run_off(&mut runs, random),
@@ -126,10 +96,6 @@ fn any_runs(random: &mut Random) -> Vec<usize> {
         }
     }
     runs
-}
-
-fn any_frame(random: &mut Random) -> Vec<bool> {
-    any_bits(&[8, 16, 16, 24], random)
 }
 
 fn any_bits(lengths: &[usize], random: &mut Random) -> Vec<bool> {

@@ -8,7 +8,7 @@ use crate::rust::original::rx_decode::{RxDecode, SniffedFrame};
 /// Later lines are neither read nor counted.
 pub const MOST_LINES: u32 = 999_999;
 /// A line may have so many bytes before its LF.
-pub const MOST_BYTES: usize = 140;
+const MOST_BYTES: usize = 140;
 const MOST_SILENCE: u16 = 255;
 const MOST_SAMPLES: u16 = 64;
 const TICK_MICROSECONDS: u32 = 104;
@@ -16,20 +16,12 @@ const TICK_MICROSECONDS: u32 = 104;
 const BUFFER: usize = 1 << 16;
 
 /// The first that is true of a line, in this order, is its refusal.
-#[derive(Clone, Copy, PartialEq, Eq)]
+#[derive(Clone, Copy)]
 enum Refusal {
     TooLong = 1,
     Fields = 2,
     Number = 3,
     Samples = 4,
-}
-
-/// What the last line tells.
-#[derive(Default)]
-struct Totals {
-    lines: u32,
-    decoded: u32,
-    refused: u32,
 }
 
 /// Answers standard input on standard output.
@@ -47,27 +39,19 @@ pub fn answers(book: &[u8]) -> Vec<u8> {
 }
 
 /// Of the book no more is kept than the line at hand.
-pub fn answer_book(mut input: impl BufRead, mut output: impl Write) -> io::Result<()> {
-    let mut totals = Totals::default();
+fn answer_book(mut input: impl BufRead, mut output: impl Write) -> io::Result<()> {
+    let (mut lines, mut decoded, mut refused) = (0, 0, 0);
     let mut line = Vec::with_capacity(MOST_BYTES + 1);
-    while totals.lines < MOST_LINES && next_line(&mut input, &mut line)? {
-        totals.lines += 1;
+    while lines < MOST_LINES && next_line(&mut input, &mut line)? {
+        lines += 1;
         match event_of(&line) {
-            Ok(event) => {
-                let is_frame = write_reading(&mut output, totals.lines, &event)?;
-                totals.decoded += u32::from(is_frame);
-            }
+            Ok(event) => decoded += u32::from(write_reading(&mut output, lines, &event)?),
             Err(refusal) => {
-                writeln!(output, "{}\tBAD\t{}", totals.lines, refusal as u8)?;
-                totals.refused += 1;
+                refused += 1;
+                writeln!(output, "{lines}\tBAD\t{}", refusal as u8)?;
             }
         }
     }
-    let Totals {
-        lines,
-        decoded,
-        refused,
-    } = totals;
     writeln!(output, "END\t{lines}\t{decoded}\t{refused}")?;
     output.flush()
 }
@@ -108,21 +92,16 @@ fn fields_of(line: &[u8]) -> Option<[&[u8]; 3]> {
     fields.next().is_none().then_some(three)
 }
 
-/// A number from 0 to `most`, which has three digits at the most, as has the text that is read.
+/// A number from 0 to `most`, of at most three digits and without a leading zero.
 fn decimal(text: &[u8], most: u16) -> Option<u16> {
-    let number = match text {
-        [b'0'] => 0,
-        [b'1'..=b'9', ..] if text.len() <= 3 => digits(text)?,
-        _ => return None,
-    };
-    (number <= most).then_some(number)
-}
-
-fn digits(text: &[u8]) -> Option<u16> {
-    text.iter().try_fold(0, |number, byte| match byte {
+    if text.len() > 3 || !matches!(text, [b'0'] | [b'1'..=b'9', ..]) {
+        return None;
+    }
+    let number = text.iter().try_fold(0, |number, byte| match byte {
         b'0'..=b'9' => Some(10 * number + u16::from(byte - b'0')),
         _ => None,
-    })
+    })?;
+    (number <= most).then_some(number)
 }
 
 /// Fills the samples, each from two digits; none are left and none are missing.
@@ -155,14 +134,10 @@ fn write_reading(output: &mut impl Write, line: u32, event: &RxCompletedEvent) -
         SniffedFrame::UnsupportedLength(length) => write!(output, "LEN\t{length}"),
         SniffedFrame::DecodeFailed => write!(output, "FAIL\t-"),
     }?;
-    writeln!(
-        output,
-        "\t{}\t{}\t{}\t{}",
-        reading.phase_ticks,
-        reading.score,
-        event.longest_dominant_run_ticks(),
-        u32::from(event.pre_idle_ticks) * TICK_MICROSECONDS
-    )?;
+    let (phase, score) = (reading.phase_ticks, reading.score);
+    let low_run = event.longest_dominant_run_ticks();
+    let silence = u32::from(event.pre_idle_ticks) * TICK_MICROSECONDS;
+    writeln!(output, "\t{phase}\t{score}\t{low_run}\t{silence}")?;
     Ok(!matches!(
         reading.frame,
         SniffedFrame::UnsupportedLength(_) | SniffedFrame::DecodeFailed

@@ -6,8 +6,7 @@ use std::time::Instant;
 
 use crate::books::book_runs::Trial;
 use crate::books::books::record;
-use crate::books::waves::{bits_of, exact_runs, put_every_run_off, Listener};
-use crate::fsm::RxCompletedEvent;
+use crate::books::waves::{bits_of, exact_runs, put_every_run_off, samples_of, Listener};
 use crate::random::Random;
 use crate::rust::original::rx_decode::{RxDecode, SniffedDecode, SniffedFrame};
 
@@ -34,8 +33,7 @@ pub fn run(task: &Task) -> io::Result<bool> {
     let (mut waves, mut scores) = (0, String::new());
     let mut output = io::stdout();
     writeln!(output, "{HEADING}")?;
-    let offs = [Off::One, Off::Two, Off::Every];
-    for kind in (1..=3).flat_map(|bytes| offs.map(|off| Kind { bytes, off })) {
+    for kind in (1..=3).flat_map(|bytes| [1, 2, EVERY].map(|off| Kind { bytes, off })) {
         let Some(tally) = heard(kind, task)? else {
             return Ok(false);
         };
@@ -46,11 +44,10 @@ pub fn run(task: &Task) -> io::Result<bool> {
     writeln!(output, "\n{SCORES_HEADING}\n{scores}")?;
     let (seed, waves) = (task.seed, grouped(waves));
     let seconds = began.elapsed().as_secs_f64();
-    let held = match &task.reader {
-        Some(_) => "; the program answers all of their captures as the Rust does",
-        None => "",
-    };
-    writeln!(output, "seed {seed}: {waves} waves in {seconds:.1} s{held}")?;
+    writeln!(output, "seed {seed}: {waves} waves in {seconds:.1} s")?;
+    if task.reader.is_some() {
+        writeln!(output, "The program answers all as the Rust does.")?;
+    }
     Ok(true)
 }
 
@@ -65,7 +62,8 @@ fn heard(kind: Kind, task: &Task) -> io::Result<Option<Tally>> {
             // No run of highs within a wave is long enough to end a capture.
             let event = listener.hear(&runs).expect("the wave was captured");
             tally.count(&event.decode_sniffed_with_phase(), &data);
-            push_record(&mut book, &event);
+            book.extend(record(event.pre_idle_ticks, samples_of(&event)));
+            book.push(b'\n');
         }
         if book.is_empty() {
             return Ok(Some(tally));
@@ -78,44 +76,26 @@ fn heard(kind: Kind, task: &Task) -> io::Result<Option<Tally>> {
     }
 }
 
-fn push_record(book: &mut Vec<u8>, event: &RxCompletedEvent) {
-    let samples = &event.samples[..usize::from(event.sample_count)];
-    book.extend(record(event.pre_idle_ticks, samples));
-    book.push(b'\n');
-}
-
-/// Which runs of a wave are a tick longer or shorter than they should be.
-#[derive(Clone, Copy)]
-enum Off {
-    One,
-    Two,
-    /// Each is a tick shorter, as it should be, or a tick longer, with the same chance.
-    Every,
-}
-
-/// Frames of so many bytes, with so many runs off.
+/// Frames of so many bytes, with so many runs of their wave a tick longer or shorter than they should be. EVERY is each of them: a tick
+/// shorter, as it should be, or a tick longer, with the same chance.
 #[derive(Clone, Copy)]
 struct Kind {
     bytes: usize,
-    off: Off,
+    off: usize,
 }
 
-type Wave = (Vec<u8>, Vec<usize>);
+const EVERY: usize = usize::MAX;
 
 impl Kind {
-    /// How many runs are off in every frame and in all ways; none if frames and ways are taken at random.
-    fn exhausted(self) -> Option<usize> {
-        match (self.bytes, self.off) {
-            (1 | 2, Off::One) => Some(1),
-            (1, Off::Two) => Some(2),
-            _ => None,
-        }
+    /// Every frame is taken with all ways to put its runs off; else frames and ways at random.
+    fn is_exhausted(self) -> bool {
+        matches!((self.bytes, self.off), (1, 1 | 2) | (2, 1))
     }
 
     /// The data of frames with the runs of their waves.
-    fn waves(self, task: &Task) -> Box<dyn Iterator<Item = Wave>> {
-        let bytes = self.bytes;
-        if let Some(off) = self.exhausted() {
+    fn waves(self, task: &Task) -> Box<dyn Iterator<Item = (Vec<u8>, Vec<usize>)>> {
+        let Self { bytes, off } = self;
+        if self.is_exhausted() {
             let numbers = 0..1_u32 << (8 * bytes);
             return Box::new(numbers.flat_map(move |number| {
                 let data = number.to_be_bytes()[4 - bytes..].to_vec();
@@ -127,22 +107,22 @@ impl Kind {
         Box::new((0..task.frames).map(move |_| {
             let data = random.any().to_be_bytes()[..bytes].to_vec();
             let mut runs = exact_runs(&bits_of(&data));
-            put_off(&mut runs, self.off, &mut random);
+            put_off(&mut runs, off, &mut random);
             (data, runs)
         }))
     }
 
     fn name(self) -> String {
         let off = match self.off {
-            Off::One => "one",
-            Off::Two => "two",
-            Off::Every => "every, by -1, 0 or +1",
+            1 => "one",
+            2 => "two",
+            _ => "every, by -1, 0 or +1",
         };
         format!("{} | {off}", 8 * self.bytes)
     }
 
     fn row(self, tally: &Tally) -> String {
-        let all = self.exhausted().map_or("", |_| "all ");
+        let all = if self.is_exhausted() { "all " } else { "" };
         let waves = tally.waves();
         let shares = tally.counts.map(|count| share(count, waves)).join(" | ");
         format!("| {} | {all}{} | {shares} |", self.name(), grouped(waves))
@@ -176,13 +156,13 @@ fn all_ways(runs: Vec<usize>, from: usize, off: usize) -> Vec<Vec<usize>> {
     ways
 }
 
-fn put_off(runs: &mut [usize], off: Off, random: &mut Random) {
-    if let Off::Every = off {
+fn put_off(runs: &mut [usize], off: usize, random: &mut Random) {
+    if off == EVERY {
         return put_every_run_off(runs, random);
     }
     let first = random.below(runs.len());
     let mut places = vec![first];
-    if let Off::Two = off {
+    if off == 2 {
         places.push((first + 1 + random.below(runs.len() - 1)) % runs.len());
     }
     for at in places {

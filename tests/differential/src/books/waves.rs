@@ -6,25 +6,21 @@ use crate::fsm::{RxCompletedEvent, RX_IDLE_LINE_HIGH_TICKS, TX_HALF_BIT_TICKS};
 use crate::random::Random;
 use crate::rust::station::Station;
 
+const HALF_BIT_TICKS: usize = TX_HALF_BIT_TICKS as usize;
 /// The high ticks before each wave, beside those that ended the capture before it.
 const QUIET_TICKS: usize = 8;
 
 pub fn bits_of(data: &[u8]) -> Vec<bool> {
-    let bits = data
-        .iter()
-        .flat_map(|byte| (0..8).rev().map(move |bit| byte >> bit & 1 != 0));
-    bits.collect()
+    let places = (0..8 * data.len()).map(|bit| (data[bit / 8], 0x80 >> (bit % 8)));
+    places.map(|(byte, place)| byte & place != 0).collect()
 }
 
 /// The runs of a frame's exact wave up to the last low one. The high ticks after it have no end of their own.
 pub fn exact_runs(bits: &[bool]) -> Vec<usize> {
     let start_and_bits = [true].iter().chain(bits);
     let halves: Vec<bool> = start_and_bits.flat_map(|bit| [!bit, *bit]).collect();
-    let ticks = TX_HALF_BIT_TICKS as usize;
-    let mut runs: Vec<usize> = halves
-        .chunk_by(PartialEq::eq)
-        .map(|run| ticks * run.len())
-        .collect();
+    let equal_halves = halves.chunk_by(PartialEq::eq).map(<[bool]>::len);
+    let mut runs: Vec<usize> = equal_halves.map(|halves| halves * HALF_BIT_TICKS).collect();
     if runs.len() % 2 == 0 {
         runs.pop();
     }
@@ -39,15 +35,11 @@ pub fn put_every_run_off(runs: &mut [usize], random: &mut Random) {
 }
 
 /// One station for many waves.
-pub struct Listener {
-    station: Station,
-}
+pub struct Listener(Station);
 
 impl Listener {
     pub fn new() -> Self {
-        Self {
-            station: Station::new(),
-        }
+        Self(Station::new())
     }
 
     /// What an Idle station captured of the wave, once the line has been idle again; none if it heard no two low ticks running.
@@ -57,8 +49,13 @@ impl Listener {
         let wave = numbered.flat_map(|(number, ticks)| repeat_n(number % 2 == 1, *ticks));
         let after = repeat_n(true, usize::from(RX_IDLE_LINE_HIGH_TICKS));
         for high in before.chain(wave).chain(after) {
-            self.station.tick(high);
+            self.0.tick(high);
         }
-        self.station.take_rx()
+        self.0.take_rx()
     }
+}
+
+/// The samples that count.
+pub fn samples_of(event: &RxCompletedEvent) -> &[u8] {
+    &event.samples[..usize::from(event.sample_count)]
 }

@@ -15,26 +15,15 @@ extern "C" {
     fn ioctl(descriptor: c_int, request: c_ulong, ...) -> c_int;
 }
 
-/// Waits until the pipe is empty; false if that takes too long.
-pub fn wait_until_taken(pipe: &impl AsRawFd) -> bool {
+/// Waits until the pipe is empty. One that can't be asked is taken for empty.
+pub fn wait_until_taken(pipe: &impl AsRawFd) {
     let began = Instant::now();
-    while bytes_left(pipe) > 0 {
+    let mut left: c_int = 0;
+    // The call writes one int, to a place that outlives it.
+    while unsafe { ioctl(pipe.as_raw_fd(), FIONREAD, &mut left) } == 0 && left > 0 {
         if began.elapsed() > LONGEST {
-            return false;
+            return;
         }
         thread::sleep(LOOK_AGAIN);
-    }
-    true
-}
-
-/// 0 too where the pipe can't be asked.
-fn bytes_left(pipe: &impl AsRawFd) -> c_int {
-    let mut bytes: c_int = 0;
-    // The call writes one int, to a place that outlives it.
-    let status = unsafe { ioctl(pipe.as_raw_fd(), FIONREAD, &mut bytes) };
-    if status == 0 {
-        bytes
-    } else {
-        0
     }
 }
