@@ -53,18 +53,12 @@ mod runs {
     pub mod shrink;
 }
 mod random;
-mod stored;
-mod stored_encoder;
-mod stored_line;
-mod stored_readings;
-mod stored_station;
 
 // The unchanged files name each other from the crate's root.
 use rust::original::{fsm, manchester, phy};
 use rust::shims::{halfbits, platform};
 
 use std::io::{self, BufRead, BufWriter, Write};
-use std::path::Path;
 use std::process::ExitCode;
 
 use books::books::Book;
@@ -85,7 +79,6 @@ const USAGE: &str = "usage:
                                                       whole frames, B of them to a run of the program
   differential lines --calls PROGRAM [--seed S] [--lone N] [--pairs N] [--batch B]
                                                       demand 3, so many runs with one sender and with two
-  differential store --to FOLDER                      writes FOLDER/stdin and FOLDER/stdout
   differential reader                                 answers the book on standard input
   differential book --lines N --kind BOOK --seed S    writes a book; BOOK is clean, mixed or damaged
   differential edges                                  writes the book of edge lines
@@ -152,11 +145,6 @@ fn run(words: &[String]) -> Result<bool, String> {
             options.allow(&["--calls", "--seed", "--lone", "--pairs", "--batch"])?;
             let task = options.lines_task()?;
             lines::run(&task).map_err(|error| format!("{}: {error}", task.program))
-        }
-        "store" => {
-            options.allow(&["--to"])?;
-            let folder = options.text("--to")?;
-            store(Path::new(folder)).map_err(|error| format!("{folder}: {error}"))
         }
         "reader" => {
             options.allow(&[])?;
@@ -229,13 +217,6 @@ fn write_lines(generator: &mut Generator, lines: usize) -> io::Result<()> {
         line.clear();
     }
     output.flush()
-}
-
-fn store(folder: &Path) -> io::Result<bool> {
-    let script = stored::script();
-    std::fs::write(folder.join("stdin"), &script)?;
-    std::fs::write(folder.join("stdout"), answer::answers(&script))?;
-    Ok(true)
 }
 
 /// A reader that has seen enough is no fault.

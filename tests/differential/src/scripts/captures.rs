@@ -74,11 +74,6 @@ pub fn frame_capture(bits: &[bool]) -> Capture {
     capture_of_frame(bits, bit_of_eight_ticks)
 }
 
-/// The same of a wave that is too fast, with seven ticks a bit.
-pub fn fast_capture(bits: &[bool]) -> Capture {
-    capture_of_frame(bits, |_| [3, 4])
-}
-
 /// The same of a wave of which each run of ticks is one too long, one too short, or as long as it should be.
 pub fn jittered_capture(bits: &[bool], random: &mut Random) -> Capture {
     let mut runs = Runs::new();
