@@ -1,257 +1,132 @@
-//! Another program's answers held to the Rust's, byte by byte.
+//! Another program's answers held to the Rust's, byte by byte, and the Rust's to what the documents state of them.
 
 use std::io;
 use std::process::Stdio;
 use std::sync::Arc;
+use std::time::Instant;
 
-use crate::protocol::answer::{answers, Session};
-use crate::protocol::command::{
-    is_of_encoder, is_of_line, is_of_station, is_reading, Command, NAMES,
-};
+use crate::demands::stated::{first_unfit, is_stated};
+use crate::protocol::answer::answers;
 use crate::runs::program::{first_difference, printable, Difference, Run};
-use crate::runs::shrink;
-use crate::scripts::generate::{Generator, Kind};
+use crate::runs::shrink::smallest;
 
-pub struct Task {
-    pub program: String,
-    pub seed: u64,
-    pub commands: usize,
-    pub kind: Kind,
-    pub batch: usize,
+/// A script that stands alone: the program is started anew for each.
+pub struct Batch {
+    pub script: Arc<Vec<u8>>,
+    pub rust: Vec<u8>,
+    /// What the documents state of the answers, a line each; empty where they state nothing of any.
+    pub stated: Vec<u8>,
+    /// The line with which each frame or run begins, and its name. Without any, each line stands by itself.
+    pub parts: Vec<(usize, String)>,
+}
+
+/// Makes one batch after the other, and tells what is in all that it made.
+pub trait Batches: Iterator<Item = Batch> {
+    fn figures(&self) -> String;
 }
 
 /// True if there is no difference. What was compared, or the difference, is printed.
-pub fn compare(task: &Task) -> io::Result<bool> {
-    let mut generator = Generator::new(task.seed, task.kind);
-    let mut tally = Tally::new();
-    let mut left = task.commands;
-    let mut next = next_batch(&mut generator, &mut left, task.batch);
+pub fn compare(program: &str, seed: u64, mut batches: impl Batches) -> io::Result<bool> {
+    let began = Instant::now();
+    let mut next = batches.next();
     while let Some(batch) = next {
-        let run = Run::start(
-            &task.program,
-            batch.script.clone(),
-            batch.answers.len(),
-            Stdio::inherit(),
-        )?;
-        // The Rust's part of the next batch is made while the program works on this one.
-        next = next_batch(&mut generator, &mut left, task.batch);
-        let said = run.end()?;
-        if let Some(difference) = first_difference(&batch.script, &batch.answers, &said) {
-            report(task, &tally, &batch, &difference)?;
+        if let Some(difference) = first_unfit(&batch.stated, &batch.rust) {
+            batch.tell(seed, &difference, ["documents", "Rust"]);
             return Ok(false);
         }
-        tally.add(&batch.tally);
+        let room = batch.rust.len();
+        let run = Run::start(program, batch.script.clone(), room, Stdio::inherit())?;
+        // The next batch is made while the program works on this one.
+        next = batches.next();
+        if let Some(difference) = first_difference(&batch.script, &batch.rust, &run.end()?) {
+            batch.tell(seed, &difference, [batch.expecting(&difference), "program"]);
+            tell_smallest(program, &batch.lines_up_to(&difference))?;
+            return Ok(false);
+        }
     }
-    println!("seed {}: {}, no difference", task.seed, tally.text());
+    println!(
+        "seed {seed}: {} in {:.1} s, no difference",
+        batches.figures(),
+        began.elapsed().as_secs_f64()
+    );
     Ok(true)
 }
 
-/// A script that stands alone: the program is started anew for each.
-struct Batch {
-    script: Arc<Vec<u8>>,
-    answers: Vec<u8>,
-    tally: Tally,
-}
-
-fn next_batch(generator: &mut Generator, left: &mut usize, size: usize) -> Option<Batch> {
-    let lines = size.min(*left);
-    if lines == 0 {
-        return None;
-    }
-    *left -= lines;
-    let mut script = Vec::with_capacity(160 * lines);
-    let mut answers = Vec::with_capacity(40 * lines);
-    let mut session = Session::new();
-    let mut tally = Tally::new();
-    for _ in 0..lines {
-        let from = script.len();
-        generator.push_line(&mut script);
-        let command = session.answer(&script[from..], &mut answers);
-        tally.count(command.as_ref(), session.line().stations().len());
-        script.push(b'\n');
-    }
-    Some(Batch {
-        script: Arc::new(script),
-        answers,
-        tally,
-    })
-}
-
-fn report(task: &Task, before: &Tally, batch: &Batch, difference: &Difference) -> io::Result<()> {
-    let lines: Vec<&[u8]> = batch.script.split(|byte| *byte == b'\n').collect();
-    let at = difference.line.min(lines.len() - 2);
-    println!(
-        "DIFFERENCE on line {} of seed {} (line {} of its batch)",
-        before.lines() + at + 1,
-        task.seed,
-        at + 1
-    );
-    println!("  command: {}", printable(lines[at]));
-    println!("  Rust:    {}", printable(&difference.expected));
-    println!("  program: {}", printable(&difference.told));
-    look_for_smallest(&task.program, &lines[..=at])
-}
-
-/// Prints the smallest commands that still show a difference to the Rust, which these lines showed.
-pub fn look_for_smallest(program: &str, lines: &[&[u8]]) -> io::Result<()> {
-    println!("Looking for the smallest command that shows it ...");
-    let script = lines.iter().map(|line| line.to_vec()).collect();
-    let mut differs = |script: &[Vec<u8>]| matches!(trial(program, script), Ok(Some(_)));
-    match shrink::smallest(script, &mut differs) {
-        Some(small) => report_smallest(program, &small),
-        None => {
-            println!("A second run of the lines up to this one showed no difference: the program");
-            println!("does not always answer alike, or fails only on the batch's later lines.");
-            Ok(())
+impl Batch {
+    fn expecting(&self, difference: &Difference) -> &'static str {
+        if is_stated(&self.stated, difference.line) {
+            "documents and Rust"
+        } else {
+            "Rust"
         }
     }
+
+    /// The last LF ends a line and begins none.
+    fn lines_up_to(&self, difference: &Difference) -> Vec<&[u8]> {
+        let mut lines: Vec<&[u8]> = self.script.split(|byte| *byte == b'\n').collect();
+        lines.truncate((difference.line + 1).min(lines.len() - 1));
+        lines
+    }
+
+    /// The frame or run, its commands up to the difference, and the two answers to the last of them, under these names.
+    fn tell(&self, seed: u64, difference: &Difference, names: [&str; 2]) {
+        let lines = self.lines_up_to(difference);
+        let last = lines.len() - 1;
+        let begun = self.parts.partition_point(|(line, _)| *line <= last);
+        let alone = (last, format!("line {} of a batch", last + 1));
+        let (first, name) = self.parts[..begun].last().unwrap_or(&alone);
+        println!("DIFFERENCE on {name}, seed {seed}");
+        for command in &lines[*first..] {
+            println!("  command: {}", printable(command));
+        }
+        tell_answers(difference, names);
+    }
 }
 
-fn report_smallest(program: &str, script: &[Vec<u8>]) -> io::Result<()> {
-    println!("Smallest:");
-    println!("  {}", shell_line(program, script));
-    if let Some(difference) = trial(program, script)? {
-        println!("  Rust:    {}", printable(&difference.expected));
-        println!("  program: {}", printable(&difference.told));
+fn tell_answers(difference: &Difference, [expected, told]: [&str; 2]) {
+    println!("  {expected}: {}", printable(&difference.expected));
+    println!("  {told}: {}", printable(&difference.told));
+}
+
+/// Prints few commands that still show a difference to the Rust, which these lines showed.
+fn tell_smallest(program: &str, lines: &[&[u8]]) -> io::Result<()> {
+    println!("Looking for the fewest commands that show it ...");
+    let script = lines.iter().map(|line| line.to_vec()).collect();
+    let differs = |script: &[Vec<u8>]| matches!(trial(program, script), Ok(Some(_)));
+    let Some(small) = smallest(script, differs) else {
+        println!("A second run showed no difference: the program does not always answer alike.");
+        return Ok(());
+    };
+    println!("{} | {}", printf_of(&small), program);
+    if let Some(difference) = trial(program, &small)? {
+        tell_answers(&difference, ["Rust", "program"]);
     }
     Ok(())
 }
 
 fn trial(program: &str, lines: &[Vec<u8>]) -> io::Result<Option<Difference>> {
-    let mut script = Vec::new();
-    for line in lines {
-        script.extend_from_slice(line);
-        script.push(b'\n');
-    }
+    let script = Arc::new(text_of(lines));
     let answers = answers(&script);
-    let script = Arc::new(script);
-    let said = Run::start(program, script.clone(), answers.len(), Stdio::null())?.end()?;
-    Ok(first_difference(&script, &answers, &said))
+    let run = Run::start(program, script.clone(), answers.len(), Stdio::null())?;
+    Ok(first_difference(&script, &answers, &run.end()?))
 }
 
-fn shell_line(program: &str, script: &[Vec<u8>]) -> String {
-    let plain = |line: &Vec<u8>| line.iter().all(|byte| matches!(byte, b' '..=b'~'));
-    if script.iter().all(plain) {
-        let quoted: Vec<String> = script
-            .iter()
-            .map(|line| shell_word(&String::from_utf8_lossy(line)))
-            .collect();
-        format!(
-            "printf '%s\\n' {} | {}",
-            quoted.join(" "),
-            shell_word(program)
-        )
-    } else {
-        let text: String = script.iter().flat_map(|line| octal(line)).collect();
-        format!("printf '{}' | {}", text, shell_word(program))
-    }
+fn text_of(lines: &[Vec<u8>]) -> Vec<u8> {
+    lines
+        .iter()
+        .flat_map(|line| [line, &b"\n"[..]].concat())
+        .collect()
 }
 
-/// A line as printf's own format, where only letters, digits and spaces stand for themselves.
-fn octal(line: &[u8]) -> Vec<char> {
-    let mut text = String::new();
-    for byte in line {
+/// What writes the lines in a shell. In printf's format only letters, digits and spaces are left to stand for themselves.
+fn printf_of(lines: &[Vec<u8>]) -> String {
+    let mut format = String::new();
+    for byte in text_of(lines) {
         match byte {
-            b'a'..=b'z' | b'A'..=b'Z' | b'0'..=b'9' | b' ' => text.push(char::from(*byte)),
-            _ => text.push_str(&format!("\\{byte:03o}")),
+            b'\n' => format.push_str("\\n"),
+            b' ' | b'_' | b'0'..=b'9' | b'a'..=b'z' | b'A'..=b'Z' => format.push(byte.into()),
+            _ => format.push_str(&format!("\\{byte:03o}")),
         }
     }
-    text.push_str("\\n");
-    text.chars().collect()
-}
-
-fn shell_word(word: &str) -> String {
-    let plain = |c: char| c.is_ascii_alphanumeric() || "/._-".contains(c);
-    if !word.is_empty() && word.chars().all(plain) {
-        word.to_string()
-    } else {
-        format!("'{}'", word.replace('\'', "'\\''"))
-    }
-}
-
-/// Lines compared so far, by the command that they say, with bad lines last; and the ticks that they make.
-struct Tally {
-    counts: [usize; NAMES.len() + 1],
-    ticks: usize,
-    line_ticks: usize,
-    /// One for each of the line's stations on each of its ticks.
-    line_station_ticks: usize,
-}
-
-impl Tally {
-    fn new() -> Self {
-        Self {
-            counts: [0; NAMES.len() + 1],
-            ticks: 0,
-            line_ticks: 0,
-            line_station_ticks: 0,
-        }
-    }
-
-    fn count(&mut self, command: Option<&Command>, stations_on_line: usize) {
-        self.counts[command.map_or(NAMES.len(), Command::number)] += 1;
-        match command {
-            Some(Command::LineTicks { ticks }) => {
-                self.line_ticks += ticks;
-                self.line_station_ticks += stations_on_line * ticks;
-            }
-            Some(command) => self.ticks += command.ticks(),
-            None => {}
-        }
-    }
-
-    fn add(&mut self, other: &Tally) {
-        for (count, more) in self.counts.iter_mut().zip(other.counts) {
-            *count += more;
-        }
-        self.ticks += other.ticks;
-        self.line_ticks += other.line_ticks;
-        self.line_station_ticks += other.line_station_ticks;
-    }
-
-    fn lines(&self) -> usize {
-        self.counts.iter().sum()
-    }
-
-    fn bad_lines(&self) -> usize {
-        self.counts[NAMES.len()]
-    }
-
-    fn named(&self, wanted: &str) -> usize {
-        let commands = NAMES.iter().zip(self.counts);
-        commands
-            .filter(|(name, _)| **name == wanted)
-            .map(|(_, count)| count)
-            .sum()
-    }
-
-    fn of(&self, is_counted: fn(usize) -> bool) -> usize {
-        (0..NAMES.len())
-            .filter(|number| is_counted(*number))
-            .map(|number| self.counts[number])
-            .sum()
-    }
-
-    fn text(&self) -> String {
-        let mut text = format!("{} lines compared (", self.lines());
-        for (name, count) in NAMES.iter().zip(self.counts) {
-            if count > 0 {
-                text.push_str(&format!("{name} {count}, "));
-            }
-        }
-        text.push_str(&format!(
-            "bad {}), {} decode_phase answers, {} reading commands, {} encoder commands, {} station commands and {} ticks, \
-             {} line commands and {} line ticks ({} by its stations) among them",
-            self.bad_lines(),
-            self.named("phase"),
-            self.of(is_reading),
-            self.of(is_of_encoder),
-            self.of(is_of_station),
-            self.ticks,
-            self.of(is_of_line),
-            self.line_ticks,
-            self.line_station_ticks
-        ));
-        text
-    }
+    format!("printf '{format}'")
 }

@@ -118,7 +118,7 @@ pub fn first_difference(script: &[u8], answers: &[u8], said: &Said) -> Option<Di
 }
 
 /// None if the texts are equal. `end` is shown for a line that isn't told.
-pub fn first_other_line(expected: &[u8], told: &[u8], end: &str) -> Option<Difference> {
+fn first_other_line(expected: &[u8], told: &[u8], end: &str) -> Option<Difference> {
     if expected == told {
         return None;
     }
@@ -150,15 +150,10 @@ fn ended(said: &Said) -> String {
     format!("(no more lines; the program ended with {})", said.status)
 }
 
-/// The commands up to the difference, and the two answers to the last of them, under these names.
-pub fn print_difference(commands: &[&[u8]], difference: &Difference, names: [&str; 2]) {
-    for command in commands {
-        println!("  command: {}", printable(command));
-    }
-    println!("  {}: {}", names[0], printable(&difference.expected));
-    println!("  {}: {}", names[1], printable(&difference.told));
-}
-
 pub fn printable(text: &[u8]) -> String {
     text.escape_ascii().to_string()
+}
+
+pub fn hex(bytes: &[u8]) -> String {
+    bytes.iter().map(|byte| format!("{byte:02x}")).collect()
 }
