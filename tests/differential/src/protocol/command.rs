@@ -150,26 +150,6 @@ commands! {
     }
 }
 
-fn is_of(part: Part, number: usize) -> bool {
-    part_of(NAMES[number]) == Some(part)
-}
-
-pub fn is_reading(number: usize) -> bool {
-    is_of(Part::Readings, number)
-}
-
-pub fn is_of_encoder(number: usize) -> bool {
-    is_of(Part::Encoder, number)
-}
-
-pub fn is_of_station(number: usize) -> bool {
-    is_of(Part::Station, number)
-}
-
-pub fn is_of_line(number: usize) -> bool {
-    is_of(Part::Line, number)
-}
-
 fn place_among_calls(call: &Call) -> usize {
     match call {
         Call::Policy { .. } => 0,
@@ -449,10 +429,6 @@ pub fn byte_string(bytes: &[u8]) -> String {
 fn push_field(out: &mut Vec<u8>, text: &str) {
     out.push(b' ');
     out.extend_from_slice(text.as_bytes());
-}
-
-pub fn push_hex(out: &mut Vec<u8>, bytes: &[u8]) {
-    out.extend_from_slice(hex(bytes).as_bytes());
 }
 
 pub fn push_hex_field(out: &mut Vec<u8>, bytes: &[u8]) {
