@@ -47,11 +47,12 @@ impl Random {
     /// One of the choices, each as often as its weight says.
     pub fn weighted<T: Copy>(&mut self, choices: &[(usize, T)]) -> T {
         let mut at = self.below(choices.iter().map(|(weight, _)| weight).sum());
-        let found = choices.iter().find(|(weight, _)| {
-            let is_here = at < *weight;
-            at = at.saturating_sub(*weight);
-            is_here
-        });
-        found.expect("the weights add up").1
+        for (weight, choice) in choices {
+            if at < *weight {
+                return *choice;
+            }
+            at -= weight;
+        }
+        unreachable!("a number below the sum of the weights is in one of them")
     }
 }

@@ -11,7 +11,7 @@ use crate::protocol::command::{byte_string, Capture, Command, Operand, Rank};
 use crate::protocol::levels::Levels;
 use crate::rust::line::BenchLine;
 use crate::rust::original::rx_decode::{RxDecode, SniffedFrame};
-use crate::rust::station::{Call, HalfBits, Station};
+use crate::rust::station::{Call, HalfBits, Refusal, Station};
 
 const MOST_STEPS: u8 = 5;
 
@@ -82,13 +82,13 @@ impl Session {
             Command::Held { capture } => event(capture).is_line_held().text(),
             Command::Encode { frame } => match frame.encode() {
                 Ok(half_bits) => half_bits.text(),
-                Err(refusal) => refused(refusal as u8),
+                Err(refusal) => refused(refusal),
             },
             Command::EncodeBuf { frame, buffer } => {
                 let mut buffer = buffer.clone();
                 let told = match frame.encode_into(&mut buffer) {
                     Ok(half_bits) => half_bits.text(),
-                    Err(refusal) => refused(refusal as u8),
+                    Err(refusal) => refused(refusal),
                 };
                 format!("{told} {}", buffer.text())
             }
@@ -131,7 +131,7 @@ impl Station {
             }
             Call::Start { start, half_bits } => match self.start(*start, half_bits) {
                 None => ok(),
-                Some(refusal) => refused(refusal as u8),
+                Some(refusal) => refused(refusal),
             },
             Call::Poll => poll_word(self.machine.poll_tx_state()).to_string(),
             Call::TakeIdle => self.machine.take_idle_after_break().text(),
@@ -157,7 +157,7 @@ impl BenchLine {
                     *self = line;
                     ok()
                 }
-                Err(refusal) => refused(refusal as u8),
+                Err(refusal) => refused(refusal),
             },
             Command::LineTicks { ticks } => {
                 format!("l {}", byte_string(self.ticks(*ticks).bytes()))
@@ -165,7 +165,7 @@ impl BenchLine {
             Command::LineLevel => format!("l {}", self.is_high().text()),
             Command::LineCall { station, call } => match self.station_mut(*station) {
                 Ok(station) => station.make_call(call),
-                Err(refusal) => refused(refusal as u8),
+                Err(refusal) => refused(refusal),
             },
             _ => String::new(),
         }
@@ -252,8 +252,8 @@ fn ok() -> String {
     "ok".to_string()
 }
 
-fn refused(number: u8) -> String {
-    format!("refused {number}")
+fn refused(refusal: Refusal) -> String {
+    format!("refused {}", refusal as u8)
 }
 
 fn steps(mask: u32, k: u8, window: &SampleWindow) -> String {

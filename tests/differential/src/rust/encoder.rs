@@ -4,7 +4,7 @@
 use std::iter::repeat_n;
 
 use crate::protocol::levels::{Levels, HIGH, LOW};
-use crate::rust::station::{HalfBits, HALF_BIT_BYTES};
+use crate::rust::station::{HalfBits, Refusal, HALF_BIT_BYTES};
 use crate::scripts::captures::bits_of;
 
 pub const HALF_BIT_TICKS: usize = 4;
@@ -16,12 +16,6 @@ pub const FRAME_BYTES: usize = 3;
 pub struct Frame {
     pub bits: u8,
     pub bytes: [u8; FRAME_BYTES],
-}
-
-#[derive(Clone, Copy, PartialEq, Eq)]
-pub enum Refusal {
-    BitCount = 5,
-    ShortBuffer = 6,
 }
 
 impl Frame {

@@ -2,15 +2,9 @@
 
 use crate::fsm::BusState;
 use crate::protocol::levels::{Levels, HIGH};
-use crate::rust::station::Station;
+use crate::rust::station::{Refusal, Station};
 
 pub const MOST_STATIONS: u8 = 4;
-
-#[derive(Clone, Copy, PartialEq, Eq)]
-pub enum Refusal {
-    StationNumber = 9,
-    StationCount = 10,
-}
 
 pub struct BenchLine {
     stations: Vec<Station>,

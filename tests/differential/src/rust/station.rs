@@ -40,6 +40,7 @@ pub struct HalfBits {
 }
 
 impl HalfBits {
+    /// One half-bit for each tick; those that are 1 pull.
     pub fn of(pulls: &Levels) -> Self {
         let mut data = [0; HALF_BIT_BYTES];
         data[..pulls.bytes().len()].copy_from_slice(pulls.bytes());
@@ -73,11 +74,15 @@ pub enum Call {
     State,
 }
 
-/// Why a start call says no; the Rust has one word for both.
+/// Document 01's numbers for why the encoder, a start call or the line says no.
 #[derive(Clone, Copy, PartialEq, Eq, Debug)]
 pub enum Refusal {
+    BitCount = 5,
+    ShortBuffer = 6,
     State = 7,
     Length = 8,
+    StationNumber = 9,
+    StationCount = 10,
 }
 
 pub struct Station {

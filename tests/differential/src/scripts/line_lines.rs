@@ -24,8 +24,8 @@ impl Bench for BenchLine {
         self.stations()
     }
 
-    fn make(&mut self, command: &Command) {
-        self.make(command);
+    fn make(&mut self, command: &Command) -> String {
+        self.make(command)
     }
 
     fn tick(&mut self, _: &mut Random) -> bool {

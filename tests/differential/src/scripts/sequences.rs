@@ -15,8 +15,8 @@ use crate::scripts::others::any_frame;
 pub trait Bench: Sized {
     fn stations(&self) -> &[Station];
 
-    /// Does what the command says.
-    fn make(&mut self, command: &Command);
+    /// Does what the command says, and gives the answer.
+    fn make(&mut self, command: &Command) -> String;
 
     /// Makes a tick, and gives the level that it sampled.
     fn tick(&mut self, random: &mut Random) -> bool;
@@ -58,14 +58,15 @@ impl<B: Bench> Sequences<B> {
         }
     }
 
-    /// Does it to the own bench, and adds it.
-    pub fn give(&mut self, command: Command) {
-        self.bench.make(&command);
+    /// Does it to the own bench, adds it, and gives the answer.
+    pub fn give(&mut self, command: Command) -> String {
+        let answer = self.bench.make(&command);
         self.queued.push_back(command);
+        answer
     }
 
-    pub fn call(&mut self, station: u8, call: Call) {
-        self.give(B::call(station, call));
+    pub fn call(&mut self, station: u8, call: Call) -> String {
+        self.give(B::call(station, call))
     }
 
     pub fn give_policy(&mut self, station: u8, random: &mut Random) {
@@ -74,16 +75,7 @@ impl<B: Bench> Sequences<B> {
     }
 
     pub fn start(&mut self, station: u8, start: Start, half_bits: HalfBits, random: &mut Random) {
-        let are_busy = |bench: &B| {
-            bench
-                .stations()
-                .iter()
-                .filter(|each| each.is_busy())
-                .count()
-        };
-        let before = are_busy(&self.bench);
-        self.call(station, Call::Start { start, half_bits });
-        if are_busy(&self.bench) > before {
+        if self.call(station, Call::Start { start, half_bits }) == "ok" {
             self.bench.interfere(&half_bits, random);
         }
     }

@@ -39,8 +39,8 @@ impl Bench for LoneStation {
         std::slice::from_ref(&self.station)
     }
 
-    fn make(&mut self, command: &Command) {
-        self.station.make(command);
+    fn make(&mut self, command: &Command) -> String {
+        self.station.make(command)
     }
 
     fn tick(&mut self, random: &mut Random) -> bool {
@@ -93,11 +93,7 @@ impl Bench for LoneStation {
             5 | 6 => self.pull(driven_at + random.between(2, 3), 1, random),
             7 | 8 => self.pull(driven_at, random.between(1, 5), random),
             9 => self.pull(driven_at + 2, random.between(1, 40), random),
-            10 => self.pull(
-                random.between(end - 3, end + 3),
-                random.between(1, 4),
-                random,
-            ),
+            10 => self.pull(end + 3 - random.below(7), random.between(1, 4), random),
             11..=13 => self.send_against(sent, random),
             _ => self.others.are_busy = true,
         }
@@ -111,13 +107,9 @@ impl Bench for LoneStation {
             sequences.give_policy(IT, random);
         }
         sequences.bench.hears_itself = !random.one_in(4);
-        let long_run_in = if sequences.bench.ticks_are_long {
-            8
-        } else {
-            30
-        };
+        let is_long = sequences.bench.ticks_are_long;
         match random.below(40) {
-            0 if random.one_in(long_run_in) => sequences.hear_nothing_new(random),
+            0 if random.one_in(if is_long { 8 } else { 30 }) => sequences.hear_nothing_new(random),
             0..=13 => sequences.listen(random),
             14..=36 => sequences.send(random),
             _ => sequences.call_without_aim(random),
