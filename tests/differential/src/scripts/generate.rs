@@ -256,12 +256,12 @@ fn any_two_decodes(random: &mut Random) -> Vec<String> {
     operands![any_mask(random), candidate, current]
 }
 
-/// A frame's length most of the time, or about one.
+/// Mostly a frame's length, or about one. A set of lengths has room for 0 to 31.
 fn any_length(random: &mut Random) -> u8 {
-    match random.below(6) {
-        0..=2 => random.pick(&[8, 16, 24]),
-        3 => random.pick(&[7, 9, 15, 17, 23, 25, 0, 1, 2, 3, 31, 32, 255]),
-        4 => random.between(0, 40),
+    match random.below(8) {
+        0..=4 => random.pick(&[8, 16, 24]),
+        5 => random.pick(&[7, 9, 15, 17, 23, 25, 0, 1, 2, 3, 31, 32, 33, 63, 64, 255]),
+        6 => random.between(0, 40),
         _ => random.byte(),
     }
 }
@@ -291,26 +291,13 @@ fn any_narrow(random: &mut Random) -> u8 {
 
 fn any_lengths(random: &mut Random) -> Vec<String> {
     let most = random.weighted(&[(6, 6), (1, 200), (1, 1018)]);
-    let size = random.between(0, most);
-    let mut bytes = random.bytes(size);
-    for byte in &mut bytes {
-        if !random.one_in(3) {
-            *byte = any_listed_length(random);
-        }
-    }
-    let n = match random.below(4) {
-        2.. if !bytes.is_empty() => random.pick(&bytes),
-        _ => any_listed_length(random),
+    let listed = 0..random.between(0, most);
+    let bytes: Vec<u8> = listed.map(|_| any_length(random)).collect();
+    let n = match random.below(2) {
+        0 if !bytes.is_empty() => random.pick(&bytes),
+        _ => any_length(random),
     };
     operands![bytes, n]
-}
-
-/// The set has room for 0 to 31.
-fn any_listed_length(random: &mut Random) -> u8 {
-    match random.below(2) {
-        0 => random.pick(&[8, 16, 24, 0, 31, 32, 33, 63, 64, 255]),
-        _ => random.between(0, 33),
-    }
 }
 
 /// What a search may have found, and what none finds.
@@ -322,16 +309,10 @@ fn any_found(random: &mut Random) -> String {
 }
 
 fn any_unencoded(random: &mut Random) -> Frame {
-    let bits = match random.below(3) {
-        0 => any_length(random),
-        _ => random.pick(&[8, 16, 24]),
-    };
-    let bytes = [(); FRAME_BYTES].map(|()| match random.below(6) {
-        0 => 0x00,
-        1 => 0xFF,
-        _ => random.byte(),
-    });
-    Frame { bits, bytes }
+    Frame {
+        bits: any_length(random),
+        bytes: [(); FRAME_BYTES].map(|()| any_narrow(random)),
+    }
 }
 
 /// The buffer has mostly about the seven bytes that are needed, and at the most what a line has room for.

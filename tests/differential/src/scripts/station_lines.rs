@@ -109,7 +109,7 @@ impl Bench for LoneStation {
         sequences.bench.hears_itself = !random.one_in(4);
         let is_long = sequences.bench.ticks_are_long;
         match random.below(40) {
-            0 if random.one_in(if is_long { 8 } else { 30 }) => sequences.hear_nothing_new(random),
+            0 if random.one_in(if is_long { 8 } else { 15 }) => sequences.hear_nothing_new(random),
             0..=13 => sequences.listen(random),
             14..=36 => sequences.send(random),
             _ => sequences.call_without_aim(random),
