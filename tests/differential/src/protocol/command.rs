@@ -34,44 +34,23 @@ pub struct Rank {
     pub score: u16,
 }
 
-/// What a command is asked of.
-#[derive(Clone, Copy, PartialEq, Eq)]
-pub enum Part {
-    Decoders,
-    Readings,
-    Encoder,
-    Station,
-    Line,
-}
-
 macro_rules! commands {
-    (calls { $($call:literal $line_call:literal)* }
-    $($part:ident {
-        $($name:literal $variant:ident $({ $($operand:ident: $kind:ty),* })?)*
-    })*) => {
+    (calls { $($call:literal)* }
+    $($name:literal $variant:ident $({ $($operand:ident: $kind:ty),* })?)*) => {
         #[derive(Clone, PartialEq, Eq)]
         pub enum Command {
-            $($($variant $({ $($operand: $kind),* })?,)*)*
+            $($variant $({ $($operand: $kind),* })?,)*
             Call(Call),
             LineCall { station: u8, call: Call },
         }
 
-        pub const NAMES: &[&str] = &[$($($name,)*)* $($call,)* $($line_call,)*];
-
-        pub fn part_of(name: &str) -> Option<Part> {
-            match name {
-                $($($name)|* => Some(Part::$part),)*
-                $($call)|* => Some(Part::Station),
-                $($line_call)|* => Some(Part::Line),
-                _ => None,
-            }
-        }
+        pub const NAMES: &[&str] = &[$($name,)* $($call,)* $(concat!("l", $call),)*];
 
         impl Command {
             fn read_operands(name: &[u8], fields: Fields) -> Option<Self> {
-                $($(if name == $name.as_bytes() {
+                $(if name == $name.as_bytes() {
                     return Some(Command::$variant $({ $($operand: Operand::read(fields)?),* })?);
-                })*)*
+                })*
                 match name {
                     [b'l', name @ ..] => Some(Command::LineCall {
                         station: Operand::read(fields)?,
@@ -83,7 +62,7 @@ macro_rules! commands {
 
             fn operands(&self) -> Vec<String> {
                 match self {
-                    $($(Command::$variant $({ $($operand),* })? => vec![$($($operand.text()),*)?],)*)*
+                    $(Command::$variant $({ $($operand),* })? => vec![$($($operand.text()),*)?],)*
                     Command::Call(call) => operands_of(call),
                     Command::LineCall { station, call } => {
                         once(station.text()).chain(operands_of(call)).collect()
@@ -93,67 +72,52 @@ macro_rules! commands {
 
             pub fn name(&self) -> &'static str {
                 match self {
-                    $($(Command::$variant $({ $($operand: _),* })? => $name,)*)*
+                    $(Command::$variant $({ $($operand: _),* })? => $name,)*
                     Command::Call(call) => [$($call),*][place_among_calls(call)],
-                    Command::LineCall { call, .. } => [$($line_call),*][place_among_calls(call)],
+                    Command::LineCall { call, .. } => [$(concat!("l", $call)),*][place_among_calls(call)],
                 }
             }
         }
     };
 }
 
-// Calls have two names: on the one station, and on one of the line.
+// A call on one of the line's stations has an l before its name, and the station's number before its operands.
 commands! {
-    calls {
-        "policy" "lpolicy"
-        "start_tx" "lstart_tx"
-        "start_answer" "lstart_answer"
-        "poll" "lpoll"
-        "take_idle" "ltake_idle"
-        "take_rx" "ltake_rx"
-        "ack" "lack"
-        "state" "lstate"
-    }
-    Decoders {
-        "weight" Weight { sample: [u8; 1] }
-        "phase" Phase { max: u8, phase: i8, capture: Capture }
-        "search" Search { mask: u32, capture: Capture }
-        "steps" Steps { mask: u32, k: u8, capture: Capture }
-        "bsnew" BsNew { mask: u32 }
-        "bsstep" BsStep { capture: Capture }
-        "bsrun" BsRun { capture: Capture }
-        "better" Better { mask: u32, candidate: Rank, current: Rank }
-        "lengths" Lengths { bytes: Vec<u8>, n: u8 }
-    }
-    Readings {
-        "sniff" Sniff { capture: Capture }
-        "sniffdec" SniffDec { found: Option<PhaseDecode> }
-        "backward" Backward { capture: Capture }
-        "lowrun" LowRun { capture: Capture }
-        "held" Held { capture: Capture }
-    }
-    Encoder {
-        "encode" Encode { frame: Frame }
-        "encodebuf" EncodeBuf { frame: Frame, buffer: Vec<u8> }
-    }
-    Station {
-        "new" New
-        "tick" Tick { high: bool }
-        "ticks" Ticks { levels: Levels }
-        "settle" Settle { ticks: u16, lead: u8 }
-        "gate" Gate { ticks: u8 }
-    }
-    Line {
-        "line" Line { stations: u8 }
-        "lticks" LineTicks { ticks: usize }
-        "llevel" LineLevel
-    }
+    calls { "policy" "start_tx" "start_answer" "poll" "take_idle" "take_rx" "ack" "state" }
+    "weight" Weight { sample: [u8; 1] }
+    "phase" Phase { max: u8, phase: i8, capture: Capture }
+    "search" Search { mask: u32, capture: Capture }
+    "steps" Steps { mask: u32, k: u8, capture: Capture }
+    "bsnew" BsNew { mask: u32 }
+    "bsstep" BsStep { capture: Capture }
+    "bsrun" BsRun { capture: Capture }
+    "better" Better { mask: u32, candidate: Rank, current: Rank }
+    "lengths" Lengths { bytes: Vec<u8>, n: u8 }
+    "sniff" Sniff { capture: Capture }
+    "sniffdec" SniffDec { found: Option<PhaseDecode> }
+    "backward" Backward { capture: Capture }
+    "lowrun" LowRun { capture: Capture }
+    "held" Held { capture: Capture }
+    "encode" Encode { frame: Frame }
+    "encodebuf" EncodeBuf { frame: Frame, buffer: Vec<u8> }
+    "new" New
+    "tick" Tick { high: bool }
+    "ticks" Ticks { levels: Levels }
+    "settle" Settle { ticks: u16, lead: u8 }
+    "gate" Gate { ticks: u8 }
+    "line" Line { stations: u8 }
+    "lticks" LineTicks { ticks: usize }
+    "llevel" LineLevel
 }
 
+/// The place in the table of calls.
 fn place_among_calls(call: &Call) -> usize {
     match call {
         Call::Policy { .. } => 0,
-        Call::Start { start, .. } => 1 + *start as usize,
+        Call::Start { start, .. } => match start {
+            Start::Tx => 1,
+            Start::Answer => 2,
+        },
         Call::Poll => 3,
         Call::TakeIdle => 4,
         Call::TakeRx => 5,

@@ -2,7 +2,7 @@
 
 use std::collections::VecDeque;
 
-use crate::protocol::command::{hex, part_of, Operand, Part, Rank, LONGEST_LINE, NAMES};
+use crate::protocol::command::{hex, Operand, Rank, LONGEST_LINE, NAMES};
 use crate::random::Random;
 use crate::rust::encoder::{Frame, FRAME_BYTES};
 use crate::scripts::captures::{answer_capture, any_capture, low_run_capture};
@@ -17,6 +17,7 @@ const STATELESS_IN: usize = 180;
 const BESIDE_LINE_IN: usize = 200;
 const SNIFFED: u32 = 1 << 8 | 1 << 16 | 1 << 24;
 
+const EVERYTHING: &[Kind] = &[Kind::Decoders, Kind::Readings, Kind::Encoder, Kind::Station];
 const DECODERS: &[(usize, &str)] = &[
     (1, "weight"),
     (20, "phase"),
@@ -46,30 +47,35 @@ macro_rules! operands {
 #[derive(Clone, Copy, PartialEq, Eq)]
 pub enum Kind {
     Everything,
-    Of(Part),
+    Decoders,
+    Readings,
+    Encoder,
+    Station,
     /// The station's commands, with most of the ticks in long lines.
     StationLong,
+    Line,
     Only(&'static str),
 }
 
 impl Kind {
-    /// The commands that a station's state is changed or shown by make sense together alone, and so do those of the line.
     pub fn named(name: &str) -> Option<Self> {
+        let mut stateless = [DECODERS, READINGS, ENCODER, STATELESS]
+            .into_iter()
+            .flatten();
         Some(match name {
-            "decoders" => Kind::Of(Part::Decoders),
-            "readings" => Kind::Of(Part::Readings),
-            "encoder" => Kind::Of(Part::Encoder),
-            "station" => Kind::Of(Part::Station),
+            "decoders" => Kind::Decoders,
+            "readings" => Kind::Readings,
+            "encoder" => Kind::Encoder,
+            "station" => Kind::Station,
             "station-long" => Kind::StationLong,
             "bsstep" | "bsrun" => Kind::Only(KEPT_SEARCH),
-            _ => {
-                let name = NAMES.iter().find(|known| **known == name)?;
-                let is_stateless = STATELESS.iter().any(|(_, each)| each == name);
-                match part_of(name)? {
-                    part @ (Part::Station | Part::Line) if !is_stateless => Kind::Of(part),
-                    _ => Kind::Only(name),
-                }
-            }
+            _ if !NAMES.contains(&name) => return None,
+            _ => match stateless.find(|(_, known)| *known == name) {
+                Some((_, known)) => Kind::Only(known),
+                // What changes or shows a line's state makes sense together alone, and so does what is for the station's.
+                None if name.starts_with('l') => Kind::Line,
+                None => Kind::Station,
+            },
         })
     }
 }
@@ -112,23 +118,20 @@ impl Generator {
 
     fn next(&mut self) -> Vec<u8> {
         let random = &mut self.random;
-        let part = match self.kind {
-            Kind::Everything => {
-                random.pick(&[Part::Decoders, Part::Readings, Part::Encoder, Part::Station])
-            }
-            Kind::Of(part) => part,
-            Kind::StationLong => Part::Station,
-            Kind::Only(name) => return self.any_named(name).into_bytes(),
+        let kind = match self.kind {
+            Kind::Everything => random.pick(EVERYTHING),
+            kind => kind,
         };
-        let names = match part {
-            Part::Decoders if !self.kept_search.is_empty() => &[(1, KEPT_SEARCH)],
-            Part::Decoders => DECODERS,
-            Part::Readings => READINGS,
-            Part::Encoder => ENCODER,
-            Part::Station if random.one_in(STATELESS_IN) => STATELESS,
-            Part::Station => return self.station.next(random).line(),
-            Part::Line if random.one_in(BESIDE_LINE_IN) => return self.station.next(random).line(),
-            Part::Line => return self.line.next(random).line(),
+        let names = match kind {
+            Kind::Decoders if !self.kept_search.is_empty() => &[(1, KEPT_SEARCH)],
+            Kind::Everything | Kind::Decoders => DECODERS,
+            Kind::Readings => READINGS,
+            Kind::Encoder => ENCODER,
+            Kind::Station | Kind::StationLong if random.one_in(STATELESS_IN) => STATELESS,
+            Kind::Station | Kind::StationLong => return self.station.next(random).line(),
+            Kind::Line if random.one_in(BESIDE_LINE_IN) => return self.station.next(random).line(),
+            Kind::Line => return self.line.next(random).line(),
+            Kind::Only(name) => &[(1, name)],
         };
         let name = random.weighted(names);
         self.any_named(name).into_bytes()
