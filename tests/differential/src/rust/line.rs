@@ -1,8 +1,7 @@
 //! Document 01's bench line: one to four of the unchanged Rust's stations on one wire, which nothing else pulls.
 
-use crate::fsm::BusState;
 use crate::protocol::levels::{Levels, HIGH};
-use crate::rust::station::{Refusal, Station};
+use crate::rust::station::{all_are_idle, Refusal, Station};
 
 pub const MOST_STATIONS: u8 = 4;
 
@@ -48,8 +47,7 @@ impl BenchLine {
     }
 
     pub fn all_are_idle(&self) -> bool {
-        let mut stations = self.stations.iter();
-        stations.all(|station| station.bus_state() == BusState::Idle)
+        all_are_idle(&self.stations)
     }
 
     pub fn is_high(&self) -> bool {

@@ -174,3 +174,8 @@ impl Station {
         self.machine.last_rx_event()
     }
 }
+
+pub fn all_are_idle(stations: &[Station]) -> bool {
+    let mut stations = stations.iter();
+    stations.all(|station| station.bus_state() == BusState::Idle)
+}

@@ -6,10 +6,10 @@ use crate::protocol::levels::Levels;
 use crate::random::Random;
 use crate::rust::encoder::half_bits_of;
 use crate::rust::line::{BenchLine, MOST_STATIONS};
-use crate::rust::station::{Call, HalfBits, Start, Station, HALF_BIT_BYTES};
+use crate::rust::station::{all_are_idle, Call, HalfBits, Start, Station, HALF_BIT_BYTES};
 use crate::scripts::others::any_frame;
 use crate::scripts::pairs::any_pair;
-use crate::scripts::sequences::{all_are_idle, any_half_bits, any_start, Bench, Sequences};
+use crate::scripts::sequences::{any_half_bits, any_start, Bench, Sequences};
 
 pub type LineLines = Sequences<BenchLine>;
 

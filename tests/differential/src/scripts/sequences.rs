@@ -8,7 +8,7 @@ use crate::protocol::command::{Command, MOST_TICKS, POLICIES};
 use crate::protocol::levels::Levels;
 use crate::random::Random;
 use crate::rust::encoder::half_bits_of;
-use crate::rust::station::{Call, HalfBits, Start, Station, MOST_HALF_BITS};
+use crate::rust::station::{all_are_idle, Call, HalfBits, Start, Station, MOST_HALF_BITS};
 use crate::scripts::others::any_frame;
 
 /// One station that others pull about, or a line of stations.
@@ -180,14 +180,6 @@ impl<B: Bench> Sequences<B> {
         self.run(random.between(4, 240), random);
         self.call(station, Call::State);
     }
-}
-
-pub fn all_are(state: BusState, stations: &[Station]) -> bool {
-    stations.iter().all(|station| station.bus_state() == state)
-}
-
-pub fn all_are_idle(stations: &[Station]) -> bool {
-    all_are(BusState::Idle, stations)
 }
 
 fn some_breaks(stations: &[Station]) -> bool {

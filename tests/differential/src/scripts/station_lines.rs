@@ -5,9 +5,9 @@ use crate::protocol::command::{Command, MOST_TICKS};
 use crate::protocol::levels::{Levels, HIGH, LOW};
 use crate::random::Random;
 use crate::rust::encoder::{half_bits_of, HALF_BIT_TICKS};
-use crate::rust::station::{Call, HalfBits, Station};
+use crate::rust::station::{all_are_idle, Call, HalfBits, Station};
 use crate::scripts::others::{any_frame, Others};
-use crate::scripts::sequences::{all_are, all_are_idle, Bench, Sequences};
+use crate::scripts::sequences::{Bench, Sequences};
 
 /// The one station's number, which its commands don't say.
 const IT: u8 = 0;
@@ -172,7 +172,7 @@ impl LoneStation {
                 if random.one_in(8) {
                     self.others.plan(LOW, random.between(380, 560));
                 }
-                |stations| all_are(BusState::Rx, stations)
+                |stations| stations[0].bus_state() == BusState::Rx
             }
             9 | 10 => {
                 self.others.plan_frame(random);
