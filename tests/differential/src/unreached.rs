@@ -129,7 +129,6 @@ mod fsm {
                 s.hal[1] = random.one_in(2);
                 s.tx_busy = AtomicBool::new(random.one_in(2));
                 s.tx_hb_data = any_bytes(random);
-                s.tx_hb_len = near(&[0, 1, 22, 54, 55, 56, 57, 255], random.byte(), random);
                 s.rx_data = any_bytes(random);
                 s.last_rx.samples = any_bytes(random);
                 s.last_rx.sample_count = near(&[0, 64], random.any() as u16, random);
@@ -139,14 +138,13 @@ mod fsm {
 
             pub fn copied_station(s: &Station) -> port::fsm::DaliBitbangPhy {
                 let mut p = port::fsm::DaliBitbangPhy::new();
-                $(p.$($group).+.$number = s.$number;)*
+                $(p.$($group).+.$number = s.$number.into();)*
                 $(p.$($flagged).+.$flag = s.$flag;)*
                 $(p.$($cased).+.$case = match s.$case { $($of::$name => port::machine::$of::$name),* };)*
                 p.core.bus.driven_high = s.hal[1];
                 p.core.bus.tx_busy = s.tx_busy.load(Ordering::Acquire);
                 let [a, b, c, d, e, f, g] = s.tx_hb_data;
                 p.tx_hb.tx_hb_bits = u64::from_be_bytes([a, b, c, d, e, f, g, 0]);
-                p.tx_hb.tx_hb_len = u64::from(s.tx_hb_len);
                 p.rx_data = copied_samples(&s.rx_data);
                 p.event_data = copied_samples(&s.last_rx.samples);
                 p.event_rx.rx_pos = s.last_rx.sample_count;
@@ -171,6 +169,7 @@ mod fsm {
             tx_collision in core.told: [0, 1, 2, 254, 255];
             tx_hb_cnt in core.tx: [0, 1, 21, 22, 53, 54, 55, 56, 57, 255];
             tx_sp_cnt in core.tx: [0, 1, 2, 3, 4, 11, 12, 13, 14, 254, 255];
+            tx_hb_len in tx_hb: [0, 1, 22, 54, 55, 56, 57, 255];
             tx_high in core.tx: [0, 1, 2];
             tx_armed in core.tx: [0, 0, 1, 2, 3];
         }
@@ -264,13 +263,10 @@ macro_rules! told {
     }};
 }
 
-/// A call with this number or a higher one is a tick.
-const TICK: usize = 5;
-
 /// A call on any station.
 fn call_holds(random: &mut Random, tally: &mut Tally) -> bool {
     use port::fsm::StartAnswer::Started;
-    let (call, high) = (random.below(2 * TICK), random.one_in(2));
+    let (call, high) = (random.below(10), random.one_in(2));
     let mut rust = any_station(high, random);
     let port = copied_station(&rust);
     let data = any_bytes(random);
@@ -292,9 +288,8 @@ fn call_holds(random: &mut Random, tally: &mut Tally) -> bool {
     left.event_rx.rx_bit_cnt = 0;
     left.event_rx.rx_idle = 0;
     let is_idle = port.core.bus.bus_state == port::machine::BusState::Idle;
-    let may_part = call >= TICK && is_idle && port.core.bus.rx_debounce >= 2 && !high;
+    let kind = (call > 4 && is_idle && port.core.bus.rx_debounce >= 2 && !high).then_some(3);
     let both = [(copied_station(&rust), rust_answer), (left, answer)];
-    let kind = may_part.then_some(3);
     holds(tally, &(port, call, high, given), kind, both)
 }
 

@@ -27,15 +27,15 @@ pub struct Task {
     /// The most lines that one of them has.
     pub batch: usize,
     pub edges: Vec<u8>,
-    /// At so many places is the edge book begun and cut; at every byte if there is none.
+    /// At so many places, apart alike, is the edge book begun and cut; at every byte if there is none.
     pub cuts: Option<usize>,
 }
 
 /// A book that a program gets. What comes after a cut is written only when the program has read what is before it.
 pub struct Trial {
-    pub name: String,
-    pub book: Vec<u8>,
-    pub cuts: Vec<usize>,
+    name: String,
+    book: Vec<u8>,
+    cuts: Vec<usize>,
 }
 
 impl Trial {
@@ -68,17 +68,18 @@ pub fn run(task: &Task) -> io::Result<bool> {
             None => return Ok(false),
         }
     }
-    let places = places(task.edges.len(), task.cuts);
+    let length = task.edges.len();
+    let cuts = task.cuts.unwrap_or(length).min(length);
+    let places: Vec<usize> = (0..cuts).map(|cut| cut * length / cuts).collect();
     for trial in edge_trials(&task.edges, &places).chain(limit_trials()) {
         if trial.answers(&task.program)?.is_none() {
             return Ok(false);
         }
     }
-    let (seed, lines) = (task.seed, task.lines);
-    let (places, sizes) = (places.len(), PIECES.len());
+    let (seed, lines, sizes) = (task.seed, task.lines, PIECES.len());
     let seconds = began.elapsed().as_secs_f64();
     println!(
-        "seed {seed}: {lines} lines at random {tally:?}, the edge book with {places} beginnings and as many cuts of it and in pieces \
+        "seed {seed}: {lines} lines at random {tally:?}, the edge book with {cuts} beginnings and as many cuts of it and in pieces \
          of {sizes} sizes, and three books at the limits in {seconds:.1} s, no difference"
     );
     Ok(true)
@@ -100,9 +101,8 @@ fn random_trials(task: &Task) -> impl Iterator<Item = Trial> + '_ {
 
 /// The greatest number of lines, with and without more after them, and lines that no memory need hold.
 fn limit_trials() -> [Trial; 3] {
-    let empty_lines = b"\n".repeat(MOST_LINES as usize - 1);
     let good = b"C\t16\t11\t0ff0f0f0f0f0f0f00fffff";
-    let most = [&empty_lines[..], good].concat();
+    let most = [&b"\n".repeat(MOST_LINES as usize - 1)[..], good].concat();
     let more = [&most[..], b"\n", good, b"\n", good].concat();
     let long = vec![b'f'; LONG_LINE];
     let long_lines = [&long[..], b"\n", good, b"\n", &long].concat();
@@ -111,12 +111,6 @@ fn limit_trials() -> [Trial; 3] {
         Trial::whole("1,000,001 lines", more),
         Trial::whole("long lines", long_lines),
     ]
-}
-
-/// The places at which the edge book is begun and cut: every byte, or so many of them, apart alike.
-fn places(length: usize, cuts: Option<usize>) -> Vec<usize> {
-    let cuts = cuts.unwrap_or(length).min(length);
-    (0..cuts).map(|cut| cut * length / cuts).collect()
 }
 
 /// Each beginning of the edge book as a book of its own, and so none of it; and all of it in pieces and in two parts.

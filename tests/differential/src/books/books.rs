@@ -1,6 +1,6 @@
 //! Books of captures for the bench reader, made from a seed: clean ones, ones as a bench has them, and ones that are mostly damaged.
 
-use crate::books::damage::{any_bad_line, damage};
+use crate::books::damage::damage;
 use crate::books::waves::{exact_runs, put_every_run_off, samples_of, Listener};
 use crate::fsm::DALI_RX_SAMPLE_BUF_LEN;
 use crate::random::Random;
@@ -54,12 +54,13 @@ pub fn record(silence: u8, samples: &[u8]) -> Vec<u8> {
 
 fn any_line(kind: Kind, random: &mut Random, listener: &mut Listener) -> Vec<u8> {
     let is_damaged = random.below(10) < kind.1;
-    if is_damaged && random.one_in(6) {
-        return any_bad_line(random);
-    }
     let samples = match kind {
         CLEAN => heard(&exact_runs(&any_bits(&FRAMES, random)), listener),
-        _ if random.one_in(5) => as_no_station_has_them(random),
+        _ if random.one_in(5) => {
+            let capture = any_capture(random);
+            let count = DALI_RX_SAMPLE_BUF_LEN.min(usize::from(capture.count));
+            capture.samples[..count].to_vec()
+        }
         _ => heard(&any_runs(random), listener),
     };
     let mut line = record(any_silence(random), &samples);
@@ -67,12 +68,6 @@ fn any_line(kind: Kind, random: &mut Random, listener: &mut Listener) -> Vec<u8>
         damage(&mut line, random);
     }
     line
-}
-
-fn as_no_station_has_them(random: &mut Random) -> Vec<u8> {
-    let capture = any_capture(random);
-    let count = DALI_RX_SAMPLE_BUF_LEN.min(usize::from(capture.count));
-    capture.samples[..count].to_vec()
 }
 
 fn heard(runs: &[usize], listener: &mut Listener) -> Vec<u8> {
@@ -106,9 +101,8 @@ fn any_bits(lengths: &[usize], random: &mut Random) -> Vec<bool> {
 
 /// A station's silence stops at 255.
 fn any_silence(random: &mut Random) -> u8 {
-    match random.below(4) {
-        0 => 255,
-        1 => random.pick(&[0, 1, 9, 10, 99, 100, 199, 200, 254]),
-        _ => random.byte(),
-    }
+    let any = random.byte();
+    random.pick(&[
+        0, 1, 9, 10, 99, 100, 200, 254, 255, 255, 255, any, any, any, any, any,
+    ])
 }

@@ -18,16 +18,13 @@ const NEAR_HEX: [u8; 12] = *b"/:@`gGAF -\0\xFF";
 const NEAR_TEXT: [u8; 10] = *b"\t\r C0f\0\xFF\x80\x7F";
 /// About the greatest length of a good line, about that of any line, and far above it.
 const LENGTHS: [usize; 9] = [137, 138, 139, 140, 140, 140, 141, 142, 5_000];
-/// Lines without a capture.
-const LINES: [&[u8]; 11] = [
-    b"", b"", b"\r", b" ", b"\t", b"\t\t\t", b"C", b"C\t", b"C\t0\t0", b"C\t\t\t", b"C 0 0 ",
-];
 
 /// Once, and now and then once more.
 pub fn damage(line: &mut Vec<u8>, random: &mut Random) {
-    match random.below(10) {
-        0..=2 => spoil_a_part(line, random),
-        3 => stretch(line, random),
+    match random.below(12) {
+        0 | 1 => *line = any_bytes(random),
+        2..=4 => spoil_a_part(line, random),
+        5 => stretch(line, random),
         _ => spoil_a_field(line, random),
     }
     line.retain(|byte| *byte != b'\n');
@@ -36,12 +33,9 @@ pub fn damage(line: &mut Vec<u8>, random: &mut Random) {
     }
 }
 
-/// A line that no good one was made into.
-pub fn any_bad_line(random: &mut Random) -> Vec<u8> {
-    if random.one_in(4) {
-        return random.pick(&LINES).to_vec();
-    }
-    let length = 1 + random.pick(&[4, 20, 150, 300]);
+/// A line that no good one was made into, or an empty one.
+fn any_bytes(random: &mut Random) -> Vec<u8> {
+    let length = random.pick(&[1, 4, 20, 150, 300]);
     let mut line = vec![0; random.below(length)];
     for byte in &mut line {
         *byte = match random.below(3) {
@@ -50,7 +44,6 @@ pub fn any_bad_line(random: &mut Random) -> Vec<u8> {
             _ => random.pick(b"C\t\t\t0123456789abcdef"),
         };
     }
-    line.retain(|byte| *byte != b'\n');
     line
 }
 
@@ -107,13 +100,11 @@ fn any_number(random: &mut Random) -> Vec<u8> {
 
 fn spoil_hex(hex: &mut Vec<u8>, random: &mut Random) {
     let at = random.below(hex.len().max(1));
+    let near = random.pick(&NEAR_HEX);
     match random.below(6) {
         0 => hex.make_ascii_uppercase(),
         1 => hex.truncate(hex.len().saturating_sub(random.pick(&[1, 2]))),
         2 => hex.extend(random.pick(&[&b"0"[..], b"ff", b"\r"])),
-        _ => hex[at..]
-            .iter_mut()
-            .take(1)
-            .for_each(|digit| *digit = random.pick(&NEAR_HEX)),
+        _ => hex[at..].iter_mut().take(1).for_each(|digit| *digit = near),
     }
 }

@@ -12,11 +12,9 @@ const MOST_BYTES: usize = 140;
 const MOST_SILENCE: u16 = 255;
 const MOST_SAMPLES: u16 = 64;
 const TICK_MICROSECONDS: u32 = 104;
-
 const BUFFER: usize = 1 << 16;
 
 /// The first that is true of a line, in this order, is its refusal.
-#[derive(Clone, Copy)]
 enum Refusal {
     TooLong = 1,
     Fields = 2,

@@ -6,9 +6,10 @@ use std::time::Instant;
 
 use crate::books::book_runs::Trial;
 use crate::books::books::record;
-use crate::books::waves::{bits_of, exact_runs, put_every_run_off, samples_of, Listener};
+use crate::books::waves::{exact_runs, put_every_run_off, samples_of, Listener};
 use crate::random::Random;
 use crate::rust::original::rx_decode::{RxDecode, SniffedDecode, SniffedFrame};
+use crate::scripts::captures::bits_of;
 
 const BOOK_LINES: usize = 100_000;
 
@@ -42,8 +43,7 @@ pub fn run(task: &Task) -> io::Result<bool> {
         waves += tally.waves();
     }
     writeln!(output, "\n{SCORES_HEADING}\n{scores}")?;
-    let (seed, waves) = (task.seed, grouped(waves));
-    let seconds = began.elapsed().as_secs_f64();
+    let (seed, waves, seconds) = (task.seed, grouped(waves), began.elapsed().as_secs_f64());
     writeln!(output, "seed {seed}: {waves} waves in {seconds:.1} s")?;
     if task.reader.is_some() {
         writeln!(output, "The program answers all as the Rust does.")?;
@@ -76,15 +76,17 @@ fn heard(kind: Kind, task: &Task) -> io::Result<Option<Tally>> {
     }
 }
 
-/// Frames of so many bytes, with so many runs of their wave a tick longer or shorter than they should be. EVERY is each of them: a tick
-/// shorter, as it should be, or a tick longer, with the same chance.
+/// How many runs of a wave are a tick longer or shorter than they should be. EVERY is each of them: a tick shorter, as it should be, or a
+/// tick longer, with the same chance.
+const OFF: [&str; 3] = ["every, by -1, 0 or +1", "one", "two"];
+const EVERY: usize = 0;
+
+/// Frames of so many bytes, with so many runs off.
 #[derive(Clone, Copy)]
 struct Kind {
     bytes: usize,
     off: usize,
 }
-
-const EVERY: usize = usize::MAX;
 
 impl Kind {
     /// Every frame is taken with all ways to put its runs off; else frames and ways at random.
@@ -113,12 +115,7 @@ impl Kind {
     }
 
     fn name(self) -> String {
-        let off = match self.off {
-            1 => "one",
-            2 => "two",
-            _ => "every, by -1, 0 or +1",
-        };
-        format!("{} | {off}", 8 * self.bytes)
+        format!("{} | {}", 8 * self.bytes, OFF[self.off])
     }
 
     fn row(self, tally: &Tally) -> String {

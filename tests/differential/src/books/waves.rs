@@ -10,11 +10,6 @@ const HALF_BIT_TICKS: usize = TX_HALF_BIT_TICKS as usize;
 /// The high ticks before each wave, beside those that ended the capture before it.
 const QUIET_TICKS: usize = 8;
 
-pub fn bits_of(data: &[u8]) -> Vec<bool> {
-    let places = (0..8 * data.len()).map(|bit| (data[bit / 8], 0x80 >> (bit % 8)));
-    places.map(|(byte, place)| byte & place != 0).collect()
-}
-
 /// The runs of a frame's exact wave up to the last low one. The high ticks after it have no end of their own.
 pub fn exact_runs(bits: &[bool]) -> Vec<usize> {
     let start_and_bits = [true].iter().chain(bits);
