@@ -270,8 +270,8 @@ fn step_text(step: PhaseSearch) -> String {
     }
 }
 
-/// The Rust has two calls for a sniffed reading. Were they to part, neither frame could stand for the Rust's answer, so the run
-/// ends there.
+/// The Rust has two calls for a sniffed reading. Were they to part, neither frame could stand for the
+/// Rust's answer, so the run ends there.
 fn sniffed(event: &RxCompletedEvent) -> String {
     let decode = event.decode_sniffed_with_phase();
     let frame = event.decode_sniffed();

@@ -1,4 +1,5 @@
-//! The protocol's commands as values. One table says their names and operands; lines are read and written by it.
+//! The protocol's commands as values. One table says their names and operands; lines are read and written
+//! by it.
 
 use std::fmt::Display;
 use std::iter::once;
@@ -81,7 +82,8 @@ macro_rules! commands {
     };
 }
 
-// A call on one of the line's stations has an l before its name, and the station's number before its operands.
+// A call on one of the line's stations has an l before its name, and the station's number before its
+// operands.
 commands! {
     calls { "policy" "start_tx" "start_answer" "poll" "take_idle" "take_rx" "ack" "state" }
     "weight" Weight { sample: [u8; 1] }
@@ -207,7 +209,8 @@ fn operands_of(call: &Call) -> Vec<String> {
 /// What stands between a line's spaces, from some field on.
 type Fields<'a, 'line> = &'a mut dyn Iterator<Item = &'line [u8]>;
 
-/// One field of a line or more, as a value: read from where the line is now, and told with a space between two fields.
+/// One field of a line or more, as a value: read from where the line is now, and told with a space between
+/// two fields.
 pub trait Operand: Sized {
     fn read(fields: Fields) -> Option<Self>;
     fn text(&self) -> String;

@@ -1,4 +1,5 @@
-//! Levels of a line, tick after tick, packed as the protocol packs them: eight to a byte, the first at the top.
+//! Levels of a line, tick after tick, packed as the protocol packs them: eight to a byte, the first at the
+//! top.
 
 use std::iter::repeat_n;
 

@@ -1,5 +1,5 @@
-//! An encoder of our own, since the Rust's was not given: the wave that document 01 gives a frame, tick by tick, and the half-bits
-//! read off it.
+//! An encoder of our own, since the Rust's was not given: the wave that document 01 gives a frame, tick by
+//! tick, and the half-bits read off it.
 
 use std::iter::repeat_n;
 
@@ -11,7 +11,8 @@ pub const HALF_BIT_TICKS: usize = 4;
 const RELEASED_HALF_BITS: usize = 4;
 pub const FRAME_BYTES: usize = 3;
 
-/// What an encoder is given. The bits are taken from the first byte's top bit on; bytes that they don't reach count for nothing.
+/// What an encoder is given. The bits are taken from the first byte's top bit on; bytes that they don't
+/// reach count for nothing.
 #[derive(Clone, Copy, PartialEq, Eq)]
 pub struct Frame {
     pub bits: u8,

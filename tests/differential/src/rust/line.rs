@@ -1,4 +1,5 @@
-//! Document 01's bench line: one to four of the unchanged Rust's stations on one wire, which nothing else pulls.
+//! Document 01's bench line: one to four of the unchanged Rust's stations on one wire, which nothing else
+//! pulls.
 
 use crate::protocol::levels::{Levels, HIGH};
 use crate::rust::station::{all_are_idle, Refusal, Station};
@@ -31,7 +32,8 @@ impl BenchLine {
         }
     }
 
-    /// Every station samples the level that the tick before left; only then is the level made up that this one leaves.
+    /// Every station samples the level that the tick before left; only then is the level made up that this
+    /// one leaves.
     pub fn tick(&mut self) -> bool {
         let sampled = self.high;
         for station in &mut self.stations {

@@ -12,7 +12,8 @@ use crate::protocol::levels::Levels;
 pub const HALF_BIT_BYTES: usize = HalfBitBuffer::DATA_LEN;
 pub const MOST_HALF_BITS: u8 = HalfBitBuffer::MAX_DATA_HALF_BITS;
 
-/// The two levels that pass between a station and its line. A tick on which the Rust sets no level leaves the driven one as it is.
+/// The two levels that pass between a station and its line. A tick on which the Rust sets no level leaves
+/// the driven one as it is.
 pub struct Line {
     sampled_high: Cell<bool>,
     driven_high: Cell<bool>,
@@ -32,7 +33,8 @@ impl BitbangHal for Rc<Line> {
     }
 }
 
-/// Half-bits as a start call takes them: so many of them are to be sent, from the first byte's top bit on; 1 pulls low.
+/// Half-bits as a start call takes them: so many of them are to be sent, from the first byte's top bit on;
+/// 1 pulls low.
 #[derive(Clone, Copy, PartialEq, Eq)]
 pub struct HalfBits {
     pub len: u8,

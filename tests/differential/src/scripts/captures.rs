@@ -1,4 +1,5 @@
-//! Captures as stations make them, and as they never should: waves of frames, exact and bent, and bytes that are no wave.
+//! Captures as stations make them, and as they never should: waves of frames, exact and bent, and bytes
+//! that are no wave.
 
 use std::iter::once;
 use std::ops::Range;
@@ -34,7 +35,8 @@ pub fn any_capture(random: &mut Random) -> Capture {
     recounted(make(random), random)
 }
 
-/// What may come where an answer is awaited: mostly 8 bits, and lengths that are taken for them or must not be.
+/// What may come where an answer is awaited: mostly 8 bits, and lengths that are taken for them or must not
+/// be.
 pub fn answer_capture(random: &mut Random) -> Capture {
     let length = match random.below(10) {
         0..=5 => 8,
@@ -47,7 +49,8 @@ pub fn answer_capture(random: &mut Random) -> Capture {
     recounted(bent_wave(&bits, random), random)
 }
 
-/// Captures whose longest low run is about a held line's, or about all of the capture, from any tick of a byte on.
+/// Captures whose longest low run is about a held line's, or about all of the capture, from any tick of a
+/// byte on.
 pub fn low_run_capture(random: &mut Random) -> Capture {
     let make: fn(&mut Random) -> Capture = random.weighted(&[
         (3, low_runs_alike),

@@ -72,7 +72,8 @@ impl Kind {
             _ if !NAMES.contains(&name) => return None,
             _ => match stateless.find(|(_, known)| *known == name) {
                 Some((_, known)) => Kind::Only(known),
-                // What changes or shows a line's state makes sense together alone, and so does what is for the station's.
+                // What changes or shows a line's state makes sense together alone, and so does what is for
+                // the station's.
                 None if name.starts_with('l') => Kind::Line,
                 None => Kind::Station,
             },
@@ -172,7 +173,8 @@ impl Generator {
         }
     }
 
-    /// Steps, past Done and past the fifth too, with runs between. Now and then they go on where an earlier sequence left the search.
+    /// Steps, past Done and past the fifth too, with runs between. Now and then they go on where an earlier
+    /// sequence left the search.
     fn queue_kept_search(&mut self) {
         let random = &mut self.random;
         if !random.one_in(10) {

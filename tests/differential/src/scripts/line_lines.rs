@@ -136,7 +136,8 @@ impl LineLines {
         self.call(listener, Call::State);
     }
 
-    /// Pulls so short that the others remember one low tick and no more, or make the shortest captures; and mostly a start just then.
+    /// Pulls so short that the others remember one low tick and no more, or make the shortest captures; and
+    /// mostly a start just then.
     fn pull_briefly(&mut self, random: &mut Random) {
         self.come_to_rest(random);
         let sender = self.station(random);

@@ -2,8 +2,8 @@
 
 use crate::random::Random;
 
-/// Frames of these numbers of bytes that are equal, or part first at a chosen bit, or of which one goes on where the other ends, or are any
-/// two. There is more than one number.
+/// Frames of these numbers of bytes that are equal, or part first at a chosen bit, or of which one goes on
+/// where the other ends, or are any two. There is more than one number.
 pub fn any_pair(lengths: &[usize], random: &mut Random) -> [Vec<u8>; 2] {
     let first = any_data(random.pick(lengths), random);
     let second = match random.below(6) {

@@ -1,5 +1,5 @@
-//! Sequences of commands on stations as real use makes them, and misuse. They are tried on a bench of the generator's own while they are
-//! made, so that calls come at chosen moments.
+//! Sequences of commands on stations as real use makes them, and misuse. They are tried on a bench of the
+//! generator's own while they are made, so that calls come at chosen moments.
 
 use std::collections::VecDeque;
 
@@ -96,7 +96,8 @@ impl<B: Bench> Sequences<B> {
         self.run_until(ticks, random, |_| false);
     }
 
-    /// Ticks until the stations are as they should be, but no more than `most`; gives how many of them are left.
+    /// Ticks until the stations are as they should be, but no more than `most`; gives how many of them are
+    /// left.
     pub fn run_until(
         &mut self,
         most: usize,

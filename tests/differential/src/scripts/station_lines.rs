@@ -79,8 +79,8 @@ impl Bench for LoneStation {
         Command::Ticks { levels }
     }
 
-    /// The first tick is the one after the start. The half-bit `k` is driven on tick 4 + 4k, and the tick after the one that drives
-    /// the last half-bit ends the send.
+    /// The first tick is the one after the start. The half-bit `k` is driven on tick 4 + 4k, and the tick
+    /// after the one that drives the last half-bit ends the send.
     fn interfere(&mut self, sent: &HalfBits, random: &mut Random) {
         let len = usize::from(sent.len);
         let end = HALF_BIT_TICKS * len;
