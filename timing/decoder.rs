@@ -6,9 +6,9 @@ use std::hint::black_box;
 
 mod common;
 
-#[path = "../tests/differential/src/original.rs"]
+#[path = "../tests/differential/src/rust/original.rs"]
 mod original;
-#[path = "../tests/differential/src/shims.rs"]
+#[path = "../tests/differential/src/rust/shims.rs"]
 mod shims;
 
 // The unchanged files name each other, and the shims, from the crate's root.

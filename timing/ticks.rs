@@ -30,7 +30,7 @@ mod fsm {
     }
 }
 
-#[path = "../tests/differential/src/shims.rs"]
+#[path = "../tests/differential/src/rust/shims.rs"]
 mod shims;
 
 use common::{ratios, Random, ROUNDS};

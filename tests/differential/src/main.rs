@@ -1,85 +1,102 @@
 //! The Rust side of the differential runs: answers the call protocol and the bench reader's books over the
 //! unchanged Rust, makes scripts and books, and compares another program's answers with the Rust's.
 
-mod answer;
-mod book_runs;
-mod books;
-mod captures;
-mod command;
-mod compare;
-mod coverage;
-mod damage;
-mod day;
-mod demand;
-mod demand_lines;
-mod edges;
-mod encoder;
-mod frame_lines;
-mod frames;
-mod generate;
-mod levels;
-mod line;
-mod line_coverage;
-mod line_lines;
-mod lines;
-mod original;
-mod others;
-mod pairs;
-mod pipe;
-mod program;
+/// What the port is compared with: the unchanged files, what stands for the rest of their crate, and hosts for them.
+mod rust {
+    pub mod encoder;
+    pub mod line;
+    pub mod original;
+    pub mod shims;
+    pub mod station;
+}
+/// The call protocol: its commands as lines, and the answers to them.
+mod protocol {
+    pub mod answer;
+    pub mod command;
+    pub mod levels;
+}
+/// Scripts at random.
+mod scripts {
+    pub mod captures;
+    pub mod generate;
+    pub mod line_lines;
+    pub mod others;
+    pub mod pairs;
+    pub mod seeded;
+    pub mod sequences;
+    pub mod spoil;
+    pub mod station_lines;
+}
+/// What document 01 demands of whole frames and of senders on one line, stated without a station.
+mod demands {
+    pub mod demand;
+    pub mod demand_lines;
+    pub mod frame_lines;
+    pub mod frames;
+    pub mod lines;
+    pub mod stated;
+}
+/// The bench reader's books.
+mod books {
+    pub mod book_runs;
+    pub mod books;
+    pub mod damage;
+    pub mod reader;
+    pub mod uneven;
+    pub mod waves;
+}
+/// Running another program and telling how its answers differ.
+mod runs {
+    pub mod compare;
+    pub mod pipe;
+    pub mod program;
+    pub mod shrink;
+}
+mod options;
 mod random;
-mod reader;
-mod shims;
-mod shrink;
-mod stated;
-mod station;
-mod station_lines;
-mod stored;
-mod stored_encoder;
-mod stored_line;
-mod stored_readings;
-mod stored_station;
-mod uneven;
 
 // The unchanged files name each other from the crate's root.
-use original::{fsm, manchester, phy};
-use shims::{halfbits, platform};
+use rust::original::{fsm, manchester, phy};
+use rust::shims::{halfbits, platform};
 
 use std::io::{self, BufRead, BufWriter, Write};
-use std::path::Path;
 use std::process::ExitCode;
 
-use books::Book;
-use generate::{Generator, Kind};
+use books::{book_runs, reader, uneven};
+use demands::frames::Frames;
+use demands::lines::Runs;
+use options::Options;
+use protocol::answer::Session;
+use runs::compare::{compare, Batches};
+use scripts::generate::{Generator, Kind};
+use scripts::seeded::Seeded;
 
+/// Each verb stands in a line with its options, which `options_of` finds there.
 const USAGE: &str = "usage:
-  differential answer                                 answers the protocol on standard input
+  differential answer
+      answers the protocol on standard input
   differential generate --seed S --commands N [--only KIND]
-  differential coverage --seed S --commands N [--only KIND]
-                                                      counts where a script brings a station, a line and the encoder
-  differential compare --calls PROGRAM --seed S --commands N [--only KIND] [--batch B]
-  differential frames --calls PROGRAM [--seed S] [--batch B]
-                                                      whole frames, B of them to a run of the program
-  differential lines --calls PROGRAM [--seed S] [--lone N] [--pairs N] [--batch B]
-                                                      demand 3, so many runs with one sender and with two
-  differential store --to FOLDER                      writes FOLDER/stdin and FOLDER/stdout
-  differential reader                                 answers the book on standard input
-  differential book --lines N --kind BOOK --seed S    writes a book; BOOK is clean, mixed or damaged
-  differential edges                                  writes the book of edge lines
-  differential escaped-edges                          the same as text, for printf's %b
-  differential sample                                 writes a gateway's day on the bench
-  differential long                                   writes the book that is longer than several reads
-  differential books --reader PROGRAM --lines N --seed S [--cuts K] [--batch B]
-                                                      books of B lines, N in all; the edge book at K places
+      writes a script
+  differential compare --calls PROGRAM --seed S --commands N [--only KIND]
+      holds a program to the Rust on a script
+  differential frames --calls PROGRAM [--seed S]
+      the same on whole frames
+  differential lines --calls PROGRAM [--seed S] [--lone N] [--pairs N]
+      the same on runs of demand 3, so many with one sender and with two
+  differential reader
+      answers the book on standard input
+  differential book --lines N --kind BOOK --seed S
+      writes a book
+  differential books --reader PROGRAM --lines N --seed S [--edges FILE] [--cuts K]
+      holds a reader to ours on books of N lines in all, and on the edge book at K places
   differential uneven --frames N [--seed S] [--reader PROGRAM]
-                                                      how frames with uneven edges are read, N of a kind at random
-KIND is decoders, readings, encoder, station, station-long, line or a command's name.";
+      counts how frames with uneven edges are read, N of a kind at random
+KIND is decoders, readings, encoder, station, station-long, line or a command's name.
+BOOK is clean, mixed or damaged.";
 
-const USUAL_BATCH: usize = 50_000;
-const USUAL_FRAMES_BATCH: usize = 5_000;
-const USUAL_LINES_RUNS: u64 = 20_000;
-const USUAL_LINES_BATCH: usize = 2_000;
-const USUAL_BOOK_LINES: usize = 10_000;
+const USUAL_LINES_RUNS: usize = 20_000;
+const MOST_BOOK_LINES: usize = 10_000;
+const USUAL_EDGES: &str = "samples/edges.escaped";
 const USUAL_SEED: u64 = 62386;
 const DIFFERENT: u8 = 1;
 const MISUSED_OR_BROKEN: u8 = 2;
@@ -96,89 +113,99 @@ fn main() -> ExitCode {
     }
 }
 
+fn options_of(verb: &str) -> Option<&'static str> {
+    let lines = USAGE.lines();
+    let verbs = lines.filter_map(|line| line.strip_prefix("  differential "));
+    let mut pairs = verbs.map(|line| line.split_once(' ').unwrap_or((line, "")));
+    pairs
+        .find(|(name, _)| *name == verb)
+        .map(|(_, options)| options)
+}
+
 /// False for a difference.
 fn run(words: &[String]) -> Result<bool, String> {
     let (verb, rest) = words.split_first().ok_or(USAGE)?;
-    let options = Options::read(rest)?;
+    let unknown = || format!("there is no command {verb}\n{USAGE}");
+    let options = Options::read(rest, options_of(verb).ok_or_else(unknown)?)?;
     match verb.as_str() {
-        "answer" => {
-            options.allow(&[])?;
-            quiet_on_closed_pipe(answer())
-        }
-        "generate" => {
-            options.allow(&["--seed", "--commands", "--only"])?;
-            quiet_on_closed_pipe(generate(&options)?)
-        }
-        "coverage" => {
-            options.allow(&["--seed", "--commands", "--only"])?;
-            let mut generator = Generator::new(options.seed()?, options.kind()?);
-            let table = coverage::table(&mut generator, options.commands()?);
-            quiet_on_closed_pipe(io::stdout().lock().write_all(table.as_bytes()))
-        }
+        "answer" => quiet_on_closed_pipe(answer()),
+        "generate" => quiet_on_closed_pipe(write_lines(
+            generator(&options)?,
+            options.positive("--commands")?,
+        )),
         "compare" => {
-            options.allow(&["--calls", "--seed", "--commands", "--only", "--batch"])?;
-            let task = options.task()?;
-            compare::compare(&task).map_err(|error| format!("{}: {error}", task.program))
+            let script = Seeded::new(generator(&options)?, options.positive("--commands")?);
+            compared(&options, options.number("--seed")?, script)
         }
         "frames" => {
-            options.allow(&["--calls", "--seed", "--batch"])?;
-            let task = options.frames_task()?;
-            frames::run(&task).map_err(|error| format!("{}: {error}", task.program))
+            let seed = options.number_or("--seed", USUAL_SEED)?;
+            compared(&options, seed, Frames::new(seed))
         }
         "lines" => {
-            options.allow(&["--calls", "--seed", "--lone", "--pairs", "--batch"])?;
-            let task = options.lines_task()?;
-            lines::run(&task).map_err(|error| format!("{}: {error}", task.program))
+            let seed = options.number_or("--seed", USUAL_SEED)?;
+            let lone = options.number_or("--lone", USUAL_LINES_RUNS)?;
+            let pairs = options.number_or("--pairs", USUAL_LINES_RUNS)?;
+            compared(&options, seed, Runs::new(seed, lone, pairs))
         }
-        "store" => {
-            options.allow(&["--to"])?;
-            let folder = options.text("--to")?;
-            store(Path::new(folder)).map_err(|error| format!("{folder}: {error}"))
-        }
-        "reader" => {
-            options.allow(&[])?;
-            quiet_on_closed_pipe(reader::answer_standard_input())
-        }
+        "reader" => quiet_on_closed_pipe(reader::answer_standard_input()),
         "book" => {
-            options.allow(&["--lines", "--kind", "--seed"])?;
-            let book = Book::new(options.seed()?, options.book_kind()?, options.lines()?);
-            quiet_on_closed_pipe(book.write(&mut BufWriter::new(io::stdout().lock())))
-        }
-        "edges" => {
-            options.allow(&[])?;
-            quiet_on_closed_pipe(io::stdout().lock().write_all(&edges::book()))
-        }
-        "escaped-edges" => {
-            options.allow(&[])?;
-            quiet_on_closed_pipe(io::stdout().lock().write_all(edges::escaped().as_bytes()))
-        }
-        "sample" => {
-            options.allow(&[])?;
-            quiet_on_closed_pipe(io::stdout().lock().write_all(&day::book()))
-        }
-        "long" => {
-            options.allow(&[])?;
-            quiet_on_closed_pipe(io::stdout().lock().write_all(&books::long_book()))
+            let kind = options.named("--kind", books::books::Kind::named)?;
+            let seed = options.number("--seed")?;
+            written(&books::books::book(
+                seed,
+                kind,
+                options.positive("--lines")?,
+            ))
         }
         "books" => {
-            options.allow(&["--reader", "--lines", "--seed", "--cuts", "--batch"])?;
-            let task = options.books_task()?;
+            let task = book_runs::Task {
+                program: options.text("--reader")?.to_string(),
+                seed: options.number("--seed")?,
+                lines: options.positive("--lines")?,
+                batch: MOST_BOOK_LINES,
+                edges: edge_book(options.find("--edges").unwrap_or(USUAL_EDGES))?,
+                cuts: options
+                    .find("--cuts")
+                    .map(|_| options.number("--cuts"))
+                    .transpose()?,
+            };
             book_runs::run(&task).map_err(|error| format!("{}: {error}", task.program))
         }
         "uneven" => {
-            options.allow(&["--frames", "--seed", "--reader"])?;
-            let task = options.uneven_task()?;
-            let same = uneven::run(&task);
-            same.or_else(|error| quiet_on_closed_pipe(Err(error)))
+            let task = uneven::Task {
+                seed: options.number_or("--seed", USUAL_SEED)?,
+                frames: options.positive("--frames")?,
+                reader: options.find("--reader").map(str::to_string),
+            };
+            uneven::run(&task).or_else(|error| quiet_on_closed_pipe(Err(error)))
         }
-        _ => Err(format!("there is no command {verb}\n{USAGE}")),
+        _ => Err(unknown()),
     }
+}
+
+fn generator(options: &Options) -> Result<Generator, String> {
+    let kind = match options.find("--only") {
+        None => Kind::Everything,
+        Some(_) => options.named("--only", Kind::named)?,
+    };
+    Ok(Generator::new(options.number("--seed")?, kind))
+}
+
+/// The edge book, from the text that it is stored as.
+fn edge_book(path: &str) -> Result<Vec<u8>, String> {
+    let text = std::fs::read_to_string(path).map_err(|error| format!("{path}: {error}"))?;
+    book_runs::unescaped(&text).ok_or(format!("{path}: not as printf's %b takes a book here"))
+}
+
+fn compared(options: &Options, seed: u64, batches: impl Batches) -> Result<bool, String> {
+    let program = options.text("--calls")?;
+    compare(program, seed, batches).map_err(|error| format!("{program}: {error}"))
 }
 
 fn answer() -> io::Result<()> {
     let mut input = io::stdin().lock();
     let mut output = BufWriter::new(io::stdout().lock());
-    let mut session = answer::Session::new();
+    let mut session = Session::new();
     let mut line = Vec::new();
     let mut text = Vec::new();
     while input.read_until(b'\n', &mut line)? > 0 {
@@ -190,13 +217,7 @@ fn answer() -> io::Result<()> {
     output.flush()
 }
 
-fn generate(options: &Options) -> Result<io::Result<()>, String> {
-    let mut generator = Generator::new(options.seed()?, options.kind()?);
-    let commands = options.commands()?;
-    Ok(write_lines(&mut generator, commands))
-}
-
-fn write_lines(generator: &mut Generator, lines: usize) -> io::Result<()> {
+fn write_lines(mut generator: Generator, lines: usize) -> io::Result<()> {
     let mut output = BufWriter::new(io::stdout().lock());
     let mut line = Vec::new();
     for _ in 0..lines {
@@ -208,11 +229,8 @@ fn write_lines(generator: &mut Generator, lines: usize) -> io::Result<()> {
     output.flush()
 }
 
-fn store(folder: &Path) -> io::Result<bool> {
-    let script = stored::script();
-    std::fs::write(folder.join("stdin"), &script)?;
-    std::fs::write(folder.join("stdout"), answer::answers(&script))?;
-    Ok(true)
+fn written(text: &[u8]) -> Result<bool, String> {
+    quiet_on_closed_pipe(io::stdout().lock().write_all(text))
 }
 
 /// A reader that has seen enough is no fault.
@@ -220,138 +238,5 @@ fn quiet_on_closed_pipe(done: io::Result<()>) -> Result<bool, String> {
     match done {
         Err(error) if error.kind() != io::ErrorKind::BrokenPipe => Err(error.to_string()),
         _ => Ok(true),
-    }
-}
-
-struct Options<'a> {
-    pairs: Vec<(&'a str, &'a str)>,
-}
-
-impl<'a> Options<'a> {
-    fn read(words: &'a [String]) -> Result<Self, String> {
-        let mut pairs = Vec::new();
-        for pair in words.chunks(2) {
-            match pair {
-                [name, value] if name.starts_with("--") => pairs.push((&**name, &**value)),
-                _ => return Err(format!("{} has no value\n{USAGE}", pair[0])),
-            }
-        }
-        Ok(Self { pairs })
-    }
-
-    fn allow(&self, names: &[&str]) -> Result<(), String> {
-        match self.pairs.iter().find(|(name, _)| !names.contains(name)) {
-            Some((name, _)) => Err(format!("{name} is no option here\n{USAGE}")),
-            None => Ok(()),
-        }
-    }
-
-    fn find(&self, name: &str) -> Option<&'a str> {
-        let found = self.pairs.iter().find(|(given, _)| *given == name);
-        found.map(|(_, value)| *value)
-    }
-
-    fn text(&self, name: &str) -> Result<&'a str, String> {
-        self.find(name).ok_or(format!("{name} is missing\n{USAGE}"))
-    }
-
-    fn seed(&self) -> Result<u64, String> {
-        Self::number("--seed", self.text("--seed")?)
-    }
-
-    fn number(name: &str, text: &str) -> Result<u64, String> {
-        text.parse()
-            .map_err(|_| format!("{name} {text}: not a number"))
-    }
-
-    fn positive(name: &str, text: &str) -> Result<usize, String> {
-        match text.parse() {
-            Ok(number) if number > 0 => Ok(number),
-            _ => Err(format!("{name} {text}: not a number above 0")),
-        }
-    }
-
-    fn commands(&self) -> Result<usize, String> {
-        Self::positive("--commands", self.text("--commands")?)
-    }
-
-    fn kind(&self) -> Result<Kind, String> {
-        match self.find("--only") {
-            None => Ok(Kind::Everything),
-            Some(name) => Kind::named(name).ok_or(format!("--only {name}: no such kind")),
-        }
-    }
-
-    fn task(&self) -> Result<compare::Task, String> {
-        Ok(compare::Task {
-            program: self.text("--calls")?.to_string(),
-            seed: self.seed()?,
-            commands: self.commands()?,
-            kind: self.kind()?,
-            batch: self.batch(USUAL_BATCH)?,
-        })
-    }
-
-    fn frames_task(&self) -> Result<frames::Task, String> {
-        Ok(frames::Task {
-            program: self.text("--calls")?.to_string(),
-            seed: self.number_or("--seed", USUAL_SEED)?,
-            batch: self.batch(USUAL_FRAMES_BATCH)?,
-        })
-    }
-
-    fn lines_task(&self) -> Result<lines::Task, String> {
-        Ok(lines::Task {
-            program: self.text("--calls")?.to_string(),
-            seed: self.number_or("--seed", USUAL_SEED)?,
-            lone: self.number_or("--lone", USUAL_LINES_RUNS)? as usize,
-            pairs: self.number_or("--pairs", USUAL_LINES_RUNS)? as usize,
-            batch: self.batch(USUAL_LINES_BATCH)?,
-        })
-    }
-
-    fn books_task(&self) -> Result<book_runs::Task, String> {
-        let cuts = match self.find("--cuts") {
-            Some(text) => Some(Self::number("--cuts", text)? as usize),
-            None => None,
-        };
-        Ok(book_runs::Task {
-            program: self.text("--reader")?.to_string(),
-            seed: self.seed()?,
-            lines: self.lines()?,
-            batch: self.batch(USUAL_BOOK_LINES)?,
-            cuts,
-        })
-    }
-
-    fn uneven_task(&self) -> Result<uneven::Task, String> {
-        Ok(uneven::Task {
-            seed: self.number_or("--seed", USUAL_SEED)?,
-            frames: Self::positive("--frames", self.text("--frames")?)?,
-            reader: self.find("--reader").map(str::to_string),
-        })
-    }
-
-    fn lines(&self) -> Result<usize, String> {
-        Self::positive("--lines", self.text("--lines")?)
-    }
-
-    fn book_kind(&self) -> Result<books::Kind, String> {
-        let name = self.text("--kind")?;
-        books::Kind::named(name).ok_or(format!("--kind {name}: no such kind"))
-    }
-
-    fn number_or(&self, name: &str, usual: u64) -> Result<u64, String> {
-        match self.find(name) {
-            None => Ok(usual),
-            Some(text) => Self::number(name, text),
-        }
-    }
-
-    fn batch(&self, usual: usize) -> Result<usize, String> {
-        match self.find("--batch") {
-            None => Ok(usual),
-            Some(text) => Self::positive("--batch", text),
-        }
     }
 }

@@ -22,8 +22,10 @@ impl Random {
     }
 
     /// A number from `low` to `high`, both among them.
-    pub fn between(&mut self, low: i32, high: i32) -> i32 {
-        low + self.below((high - low + 1) as usize) as i32
+    pub fn between<T: TryInto<i64> + TryFrom<i64>>(&mut self, low: T, high: T) -> T {
+        let [low, high] = [low, high].map(|bound| bound.try_into().ok().expect("a small bound"));
+        let number = low + self.below((high - low + 1) as usize) as i64;
+        T::try_from(number).ok().expect("a number between bounds")
     }
 
     pub fn one_in(&mut self, n: usize) -> bool {
@@ -34,7 +36,23 @@ impl Random {
         self.any() as u8
     }
 
+    pub fn bytes(&mut self, size: usize) -> Vec<u8> {
+        (0..size).map(|_| self.byte()).collect()
+    }
+
     pub fn pick<T: Copy>(&mut self, choices: &[T]) -> T {
         choices[self.below(choices.len())]
+    }
+
+    /// One of the choices, each as often as its weight says.
+    pub fn weighted<T: Copy>(&mut self, choices: &[(usize, T)]) -> T {
+        let mut at = self.below(choices.iter().map(|(weight, _)| weight).sum());
+        for (weight, choice) in choices {
+            if at < *weight {
+                return *choice;
+            }
+            at -= weight;
+        }
+        unreachable!("a number below the sum of the weights is in one of them")
     }
 }
