@@ -48,9 +48,10 @@ same-length-3 c = search needs
 
 returns-3 : tie.Need-returns-3
 returns-3 c =
-    let read = c .before .before .before .before .before .before .read in
+    let worked = c .before .before .before in
+    let read = worked .before .before .before .read in
     let back = toZ-ofZ {w = w64} {z = read .result} (sfits-of (read .ok)) in
-    (moved (read .result) (read .ensures) (rw back at (c .before .before .before .if1 .left)) (c .before .before .if2 .left) (search needs) (rw back at (c .count .ensures .1)), mark _)
+    (moved (read .result) (read .ensures) (rw back at (worked .if1 .left)) (c .before .before .if2 .left) (search needs) (rw back at (c .count .ensures .1)), mark _)
 
 pub read-chunk-spec : {M : Type 1} → statement M
 read-chunk-spec =
