@@ -33,7 +33,8 @@ enum-told c = search needs
 returns : tie.Need-returns
 unfolding foundOf
 returns c =
-    sym (ap foundOf (c .enum-told .given .1)) ∙ answered (c .before .before .before .before .of-capture .ensures) (c .before .before .before .new .ensures) (c .before .before .run .ensures .0)
+    let ran = c .before .before in
+    sym (ap foundOf (c .enum-told .given .1)) ∙ answered (ran .before .before .of-capture .ensures) (ran .before .new .ensures) (ran .run .ensures .0)
 
 digest-requires : tie.Need-digest-requires
 digest-requires c κs = search needs
@@ -41,7 +42,11 @@ digest-requires c κs = search needs
 returns-2 : tie.Need-returns-2
 unfolding foundOf
 returns-2 c =
-    c .digest .ensures ∙ sym (ap foundOf (c .before .before .found .given .1)) ∙ answered (c .before .before .before .before .before .before .of-capture .ensures) (c .before .before .before .before .before .new .ensures) (c .before .before .before .before .run .ensures .0)
+    let known = c .before .before in
+    let ran = known .before .before in
+    c .digest .ensures
+    ∙ sym (ap foundOf (known .found .given .1))
+    ∙ answered (ran .before .before .of-capture .ensures) (ran .before .new .ensures) (ran .run .ensures .0)
 
 pub timed-search-spec : {M : Type 1} → statement M
 timed-search-spec =
