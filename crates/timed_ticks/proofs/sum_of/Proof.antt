@@ -49,7 +49,9 @@ add-result-4 c = search needs
 
 returns : tie.Need-returns
 unfolding summed eventOf
-returns c = simp (c .byte-at .ensures, c .before .before .idle-tick-count .ensures, c .before .before .before .before .before .last-rx-event .ensures)
+returns c =
+    let counted = c .before .before in
+    simp (c .byte-at .ensures, counted .idle-tick-count .ensures, counted .before .before .before .last-rx-event .ensures)
 
 pub sum-of-spec : {M : Type 1} → statement M
 sum-of-spec =

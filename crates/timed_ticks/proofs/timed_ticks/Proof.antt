@@ -33,8 +33,9 @@ loop-less c = search needs
 
 loop-again : tie.Need-loop-again Inv-loop μ-loop
 loop-again c =
-    let at = c .before .before .before .before in
-    all-on _ _ (at .loop .left) _ _ (search needs) (c .before .before .one-pass .ensures .0) (c .sum-of .ensures) ∙ at .loop .inv
+    let passed = c .before .before in
+    let turn = passed .before .before in
+    all-on _ _ (turn .loop .left) _ _ (search needs) (passed .one-pass .ensures .0) (c .sum-of .ensures) ∙ turn .loop .inv
 
 returns : tie.Need-returns Inv-loop μ-loop
 returns c = all-done _ _ _ _ _ (c .loop-test .left) (c .before .loop .inv)
