@@ -18,8 +18,10 @@ same-length c = search needs
 
 returns : tie.Need-returns
 returns c =
-    let a = c .before .before .before .before .before .before .args in
-    told (decimalOf (a .number)) (a .at) (a .out .now) (decimal-put (a .number) (omega arith) (c .before .before .before .places .ensures) (c .before .before .put-digits .ensures))
+    let put = c .before .before in
+    let counted = put .before in
+    let a = counted .before .before .before .args in
+    told (decimalOf (a .number)) (a .at) (a .out .now) (decimal-put (a .number) (omega arith) (counted .places .ensures) (put .put-digits .ensures))
 
 pub put-decimal-spec : {M : Type 1} → statement M
 put-decimal-spec = tie.close (tie.spec places-requires put-digits-requires same-length returns)

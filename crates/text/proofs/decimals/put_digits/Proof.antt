@@ -65,7 +65,8 @@ same-length c = search needs
 
 returns-2 : tie.Need-returns-2 Inv-loop μ-loop
 returns-2 c =
-    let a = c .before .before .before .before .before .args in
+    let roomy = c .before .before in
+    let a = roomy .before .before .before .args in
     let text = digits (a .count) (a .number) in
     let long = length-digits (a .count) (a .number) in
     let at = c .before .loop in

@@ -1,11 +1,13 @@
 -- `text::decimals::read_number` meets its contract. Assumes nothing.
-use Prim.Native.Nat.{_+_, _*_, _-_, _≤_}
+use Prim.Native.Nat.{ℕ, _+_, _*_, _-_, _≤_}
 use native.Mathlib.Omega.{arith}
+use mathlib.Core.Bool.{true}
+use mathlib.Core.List.{List}
 use mathlib.Core.Path.{_≡_, sym, _∙_}
 use lib.ListN.{length, getD, drop}
 use borrow.Author.Tests.{not-true, not-false}
 use Rattle.text.specs.Letters.{letter}
-use Rattle.text.specs.Decimals.{allDigits, valueFrom, valueOf}
+use Rattle.text.specs.Decimals.{isDigit, allDigits, valueFrom, valueOf}
 use Rattle.text.proofs.Digits.{value-on, value-end}
 use Rattle.text.proofs.DecimalLaws.{digit-between, decimals, value-≥, digits-on, digits-end, not-digits, not-begun, well-begun, number-odd, number-high, number-good}
 use borrow.Author.Needs.{needs}
@@ -17,6 +19,27 @@ Inv-loop field most limit number₀ i₀ number i = (i ≤ length field) × (num
 
 abbrev μ-loop : tie.MeasureT-loop
 μ-loop field most limit number₀ i₀ number i = length field - i
+
+-- the field, from the head of a turn
+abbrev whole : tie.At-loop Inv-loop μ-loop → List ℕ
+whole turn = let begun = turn .before in begun .before .before .before .args .field .now
+
+-- in a turn whose byte is a digit
+module _ (c : tie.Else2 Inv-loop μ-loop) where
+  abbrev inside : tie.In-loop Inv-loop μ-loop
+  inside = c .before .before .before
+
+  abbrev turn : tie.At-loop Inv-loop μ-loop
+  turn = inside .before
+
+  abbrev byte : ℕ
+  byte = getD (whole turn) (turn .loop .i) 0
+
+  digit : isDigit byte ≡ true
+  digit = sym (c .before .is-digit .ensures) ∙ not-false _ (c .if2 .left)
+
+  value-next : valueFrom (turn .loop .number * 10 + (byte - letter "0")) (drop (turn .loop .i + 1) (whole turn)) ≡ valueOf (whole turn)
+  value-next = sym (value-on decimals (whole turn) (turn .loop .i) (inside .loop-test .taken) (turn .loop .number)) ∙ turn .loop .inv .2
 
 well-begun-requires : tie.Need-well-begun-requires Inv-loop μ-loop
 well-begun-requires c κs = search needs
@@ -35,28 +58,31 @@ is-digit-requires c κs = search needs
 
 returns-2 : tie.Need-returns-2 Inv-loop μ-loop
 returns-2 c =
-    let at = c .before .before .before .before .loop in
-    let field = c .before .before .before .before .before .before .before .before .args .field .now in
-    number-odd _ _ (not-digits field (sym (at .inv .3) ∙ digits-on field (at .i) (c .before .before .before .loop-test .taken) (sym (c .before .is-digit .ensures) ∙ not-true _ (c .if2 .taken))))
+    let tested = c .before in
+    let inside = tested .before .before in
+    let at = inside .before .loop in
+    let field = whole (inside .before) in
+    let no-digit = sym (tested .is-digit .ensures) ∙ not-true _ (c .if2 .taken) in
+    number-odd _ _ (not-digits field (sym (at .inv .3) ∙ digits-on field (at .i) (inside .loop-test .taken) no-digit))
 
 mul-number : tie.Need-mul-number Inv-loop μ-loop
 mul-number c = search needs
 
 sub-number : tie.Need-sub-number Inv-loop μ-loop
-sub-number c = digit-between _ (sym (c .before .is-digit .ensures) ∙ not-false _ (c .if2 .left)) .0
+sub-number c = digit-between _ (digit c) .0
 
 cast-number : tie.Need-cast-number Inv-loop μ-loop
-cast-number c = let high = digit-between _ (sym (c .before .is-digit .ensures) ∙ not-false _ (c .if2 .left)) .1 in search needs
+cast-number c = let high = digit-between _ (digit c) .1 in search needs
 
 add-number : tie.Need-add-number Inv-loop μ-loop
-add-number c = let high = digit-between _ (sym (c .before .is-digit .ensures) ∙ not-false _ (c .if2 .left)) .1 in search needs
+add-number c = let high = digit-between _ (digit c) .1 in search needs
 
 returns-3 : tie.Need-returns-3 Inv-loop μ-loop
 returns-3 c =
-    let at = c .before .before .before .before .before .loop in
-    let field = c .before .before .before .before .before .before .before .before .before .args .field .now in
-    let on = sym (value-on decimals field (at .i) (c .before .before .before .before .loop-test .taken) (at .number)) ∙ at .inv .2 in
-    number-high _ _ (omega (arith, on, value-≥ (at .number * 10 + (getD field (at .i) 0 - letter "0")) (drop (at .i + 1) field), c .if3 .taken))
+    let added = c .before in
+    let at = turn added .loop in
+    let grown = value-≥ (at .number * 10 + (byte added - letter "0")) (drop (at .i + 1) (whole (turn added))) in
+    number-high _ _ (omega (arith, value-next added, grown, c .if3 .taken))
 
 add-i : tie.Need-add-i Inv-loop μ-loop
 add-i c = search needs
@@ -66,20 +92,18 @@ loop-less c = search needs
 
 loop-again : tie.Need-loop-again Inv-loop μ-loop
 loop-again c =
-    let at = c .before .before .before .before .before .loop in
-    let field = c .before .before .before .before .before .before .before .before .before .args .field .now in
-    let here = c .before .before .before .before .loop-test .taken in
-    let digit = sym (c .before .before .is-digit .ensures) ∙ not-false _ (c .before .if2 .left) in (
+    let added = c .before in
+    let at = turn added .loop in (
       omega arith,
       omega arith,
-      sym (value-on decimals field (at .i) here (at .number)) ∙ at .inv .2,
-      sym (digits-on field (at .i) here digit) ∙ at .inv .3,
+      value-next added,
+      sym (digits-on (whole (turn added)) (at .i) (inside added .loop-test .taken) (digit added)) ∙ at .inv .3,
     )
 
 returns-4 : tie.Need-returns-4 Inv-loop μ-loop
 returns-4 c =
     let at = c .before .loop in
-    let field = c .before .before .before .before .before .args .field .now in
+    let field = whole (c .before) in
     let begun = c .before .before .before .well-begun in
     let decimal = well-begun field (begun .result) (begun .ensures) (c .before .before .if1 .left) ∙ sym (at .inv .3) ∙ digits-end field (at .i) (c .loop-test .left) in
     number-good _ field decimal (at .number) (sym (value-end decimals field (at .i) (c .loop-test .left) (at .number)) ∙ at .inv .2) (at .inv .1)

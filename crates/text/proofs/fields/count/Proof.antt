@@ -33,8 +33,9 @@ loop-less c = search needs
 
 loop-again : tie.Need-loop-again Inv-loop μ-loop
 loop-again c =
-    let a = c .before .before .before .before .args in
-    let at = c .before .before .before .loop in
+    let turn = c .before .before .before in
+    let at = turn .loop in
+    let a = turn .before .args in
     let here = c .before .before .loop-test .taken in
     ⊎-elim
     (λ w. (omega arith, omega (arith, count-here (a .mark) (a .text .now) (at .i) here (w .0 .taken))))

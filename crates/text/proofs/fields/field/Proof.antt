@@ -35,8 +35,9 @@ part-result-end c = search needs
 
 returns : tie.Need-returns Inv-loop μ-loop
 returns c =
-    let at = c .before .before .before .before .loop in
-    field-gone _ _ _ _ (c .before .before .find .ensures) (at .left) (omega arith) (omega arith) ∙ at .inv .1
+    let found = c .before .before in
+    let at = found .before .before .loop in
+    field-gone _ _ _ _ (found .find .ensures) (at .left) (omega arith) (omega arith) ∙ at .inv .1
 
 add-from : tie.Need-add-from Inv-loop μ-loop
 add-from c = let h = found-≤ _ _ _ _ (c .before .find .ensures) (c .before .before .before .loop .inv .0) in search needs

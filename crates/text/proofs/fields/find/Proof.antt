@@ -23,8 +23,9 @@ shared-slice-read-if1 c = search needs
 
 returns : tie.Need-returns Inv-loop μ-loop
 returns c =
-    let a = c .before .before .before .before .args in
-    omega (arith, mark-here (a .mark) (a .text .now) (c .before .before .before .loop .i) (c .before .before .loop-test .taken) (c .if1 .taken))
+    let turn = c .before .before .before in
+    let a = turn .before .args in
+    omega (arith, mark-here (a .mark) (a .text .now) (turn .loop .i) (c .before .before .loop-test .taken) (c .if1 .taken))
 
 add-i : tie.Need-add-i Inv-loop μ-loop
 add-i c = search needs
@@ -34,8 +35,9 @@ loop-less c = search needs
 
 loop-again : tie.Need-loop-again Inv-loop μ-loop
 loop-again c =
-    let a = c .before .before .before .before .args in
-    omega (arith, mark-on (a .mark) (a .text .now) (c .before .before .before .loop .i) (c .before .before .loop-test .taken) (c .if1 .left))
+    let turn = c .before .before .before in
+    let a = turn .before .args in
+    omega (arith, mark-on (a .mark) (a .text .now) (turn .loop .i) (c .before .before .loop-test .taken) (c .if1 .left))
 
 returns-2 : tie.Need-returns-2 Inv-loop μ-loop
 returns-2 c = let a = c .before .before .args in omega (arith, mark-end (a .mark) (a .text .now) (c .before .loop .i) (c .loop-test .left))

@@ -26,9 +26,9 @@ digit-value-requires c κs = search needs
 
 returns : tie.Need-returns Inv-loop μ-loop
 returns c =
-    let at = c .before .before .before .before .loop in
-    let field = c .before .before .before .before .before .before .args .field .now in
-    sym (hex-bad field (at .i) (c .before .before .before .loop-test .taken) _ (c .before .digit-value .ensures) (omega arith)) ∙ at .inv .1
+    let read = c .before in
+    let inside = read .before .before in
+    sym (hex-bad _ _ (inside .loop-test .taken) _ (read .digit-value .ensures) (omega arith)) ∙ inside .before .loop .inv .1
 
 add-i : tie.Need-add-i Inv-loop μ-loop
 add-i c = search needs
@@ -38,12 +38,12 @@ loop-less c = search needs
 
 loop-again : tie.Need-loop-again Inv-loop μ-loop
 loop-again c =
-    let at = c .before .before .before .before .loop in
-    let field = c .before .before .before .before .before .before .args .field .now in
-    (omega arith, sym (hex-good field (at .i) (c .before .before .before .loop-test .taken) _ (c .before .digit-value .ensures) (omega arith)) ∙ at .inv .1)
+    let read = c .before in
+    let inside = read .before .before in
+    (omega arith, sym (hex-good _ _ (inside .loop-test .taken) _ (read .digit-value .ensures) (omega arith)) ∙ inside .before .loop .inv .1)
 
 returns-2 : tie.Need-returns-2 Inv-loop μ-loop
-returns-2 c = let at = c .before .loop in sym (hex-end (c .before .before .before .args .field .now) (at .i) (c .loop-test .left)) ∙ at .inv .1
+returns-2 c = sym (hex-end _ _ (c .loop-test .left)) ∙ c .before .loop .inv .1
 
 pub all-hex-spec : {M : Type 1} → statement M
 all-hex-spec =

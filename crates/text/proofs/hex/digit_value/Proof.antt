@@ -17,16 +17,22 @@ returns : tie.Need-returns
 returns c = value-decimal (c .before .before .args .byte) (c .before .is-digit .ensures) (c .if1 .taken)
 
 returns-2 : tie.Need-returns-2
-returns-2 c = value-low (c .before .before .before .args .byte) (c .before .before .is-digit .ensures) (c .before .if1 .left) (omega arith)
+returns-2 c =
+    let no-digit = c .before in
+    value-low _ (no-digit .before .is-digit .ensures) (no-digit .if1 .left) (omega arith)
 
 returns-3 : tie.Need-returns-3
-returns-3 c = value-high (c .before .before .before .before .args .byte) (c .before .before .before .is-digit .ensures) (c .before .before .if1 .left) (omega arith)
+returns-3 c =
+    let no-digit = c .before .before in
+    value-high _ (no-digit .before .is-digit .ensures) (no-digit .if1 .left) (omega arith)
 
 add-result : tie.Need-add-result
 add-result c = search needs
 
 returns-4 : tie.Need-returns-4
-returns-4 c = value-letter (c .before .before .before .before .args .byte) (c .before .before .before .is-digit .ensures) (c .before .before .if1 .left) (omega arith) (omega arith)
+returns-4 c =
+    let no-digit = c .before .before in
+    value-letter _ (no-digit .before .is-digit .ensures) (no-digit .if1 .left) (omega arith) (omega arith)
 
 pub digit-value-spec : {M : Type 1} → statement M
 digit-value-spec =

@@ -1,8 +1,8 @@
 -- `text::hex::fill` meets its contract. Assumes nothing.
 use mathlib.Core.Path.{_≡_}
 use mathlib.Core.Bool.{true}
-use mathlib.Core.List.{_++_}
-use Prim.Native.Nat.{_+_, _*_, _-_, _≤_, _<_}
+use mathlib.Core.List.{List, _++_}
+use Prim.Native.Nat.{ℕ, _+_, _*_, _-_, _≤_, _<_}
 use native.Mathlib.Omega.{arith}
 use lib.ListN.{length, take, drop, length-set}
 use Rattle.text.specs.Hex.{allHex, bytesOf}
@@ -17,6 +17,26 @@ Inv-loop field bytes₀ i₀ bytes i =
 
 abbrev μ-loop : tie.MeasureT-loop
 μ-loop field bytes₀ i₀ bytes i = length bytes₀ - i
+
+-- in a turn that has read both of its digits
+module _ (c : tie.After-digit-value2 Inv-loop μ-loop) where
+  abbrev high-read : tie.After-digit-value Inv-loop μ-loop
+  high-read = c .before .before
+
+  abbrev turn : tie.At-loop Inv-loop μ-loop
+  turn = high-read .before .before .before
+
+  abbrev digits : List ℕ
+  digits = turn .before .before .before .args .field .now
+
+  two-left : 2 * turn .loop .i + 1 < length digits
+  two-left = omega arith
+
+  high-below : high-read .digit-value .result < 16
+  high-below = rw (high-read .digit-value .ensures) (top-small digits (turn .loop .i) two-left (turn .loop .inv .3))
+
+  low-below : c .digit-value2 .result < 16
+  low-below = rw (c .digit-value2 .ensures) (low-small digits (turn .loop .i) two-left (turn .loop .inv .3))
 
 loop-holds : tie.Need-loop-holds Inv-loop μ-loop
 loop-holds c = (omega arith, search needs, search needs, c .before .before .pre .1)
@@ -43,18 +63,10 @@ digit-value-requires-2 : tie.Need-digit-value-requires-2 Inv-loop μ-loop
 digit-value-requires-2 c κs = search needs
 
 mul-bytes : tie.Need-mul-bytes Inv-loop μ-loop
-mul-bytes c =
-    let at = c .before .before .before .before .before .loop in
-    let field = c .before .before .before .before .before .before .before .before .args .field .now in
-    let more : 2 * at .i + 1 < length field = omega arith in
-    record { fits = omega (arith, top-small field (at .i) more (at .inv .3), c .before .before .digit-value .ensures) }
+mul-bytes c = record { fits = omega (arith, high-below c) }
 
 add-bytes : tie.Need-add-bytes Inv-loop μ-loop
-add-bytes c =
-    let at = c .before .before .before .before .before .loop in
-    let field = c .before .before .before .before .before .before .before .before .args .field .now in
-    let more : 2 * at .i + 1 < length field = omega arith in
-    record { fits = omega (arith, top-small field (at .i) more (at .inv .3), low-small field (at .i) more (at .inv .3), c .before .before .digit-value .ensures, c .digit-value2 .ensures) }
+add-bytes c = record { fits = omega (arith, high-below c, low-below c) }
 
 slice-write-bytes : tie.Need-slice-write-bytes Inv-loop μ-loop
 slice-write-bytes c = search needs
@@ -67,13 +79,11 @@ loop-less c = search needs
 
 loop-again : tie.Need-loop-again Inv-loop μ-loop
 loop-again c =
-    let at = c .before .before .before .before .before .loop in
-    let field = c .before .before .before .before .before .before .before .before .args .field .now in
-    let more : 2 * at .i + 1 < length field = omega arith in (
+    let at = turn c .loop in (
       omega arith,
       simp length-set (at .inv .1),
-      bytes-on field (at .i) more _ _ (c .before .before .digit-value .ensures) (c .digit-value2 .ensures) (at .bytes) (omega arith) (at .inv .2),
-      still-hex field (at .i) more (at .inv .3),
+      bytes-on (digits c) (at .i) (two-left c) _ _ (high-read c .digit-value .ensures) (c .digit-value2 .ensures) (at .bytes) (omega arith) (at .inv .2),
+      still-hex (digits c) (at .i) (two-left c) (at .inv .3),
     )
 
 same-length : tie.Need-same-length Inv-loop μ-loop

@@ -16,7 +16,7 @@ all-hex-requires : tie.Need-all-hex-requires
 all-hex-requires c κs = search needs
 
 returns-3 : tie.Need-returns-3
-returns-3 c = let a = c .before .before .before .before .args in c .all-hex .ensures ∙ right-length (a .count) (a .field .now) (omega arith)
+returns-3 c = c .all-hex .ensures ∙ right-length _ _ (omega arith)
 
 pub is-hex-spec : {M : Type 1} → statement M
 is-hex-spec = tie.close (tie.spec returns returns-2 all-hex-requires returns-3)

@@ -22,6 +22,10 @@ Inv-loop out₀ at bytes end₀ i₀ out end i =
 abbrev μ-loop : tie.MeasureT-loop
 μ-loop out₀ at bytes end₀ i₀ out end i = length bytes - i
 
+-- the start, from the test of the room
+abbrev start : tie.After-has-room Inv-loop μ-loop → tie.Start Inv-loop μ-loop
+start tested = tested .before .before .before
+
 mul-has-room : tie.Need-mul-has-room Inv-loop μ-loop
 mul-has-room c = search needs
 
@@ -30,14 +34,14 @@ has-room-requires c κs = search needs
 
 returns : tie.Need-returns Inv-loop μ-loop
 returns c =
-    let a = c .before .before .before .before .args in
+    let a = start (c .before) .args in
     let text = hexesOf (a .bytes .now) in
     let over = too-little (2 * length (a .bytes .now)) (a .at) (a .out .now) (c .before .has-room .ensures) (c .if1 .taken) in
     unwritten (length text) text (a .at) (a .out .now) (rw (length-hexes (a .bytes .now)) over)
 
 loop-holds : tie.Need-loop-holds Inv-loop μ-loop
 loop-holds c =
-    let a = c .before .before .before .before .args in
+    let a = start (c .before) .args in
     (enough (2 * length (a .bytes .now)) (a .at) (a .out .now) (c .before .has-room .ensures) (c .if1 .left), omega arith, omega arith, refl, refl)
 
 shared-slice-read-byte : tie.Need-shared-slice-read-byte Inv-loop μ-loop
@@ -69,13 +73,15 @@ loop-less c = search needs
 
 loop-again : tie.Need-loop-again Inv-loop μ-loop
 loop-again c =
-    let at = c .before .before .before .before .loop in
-    let bytes = c .before .before .before .before .before .before .before .before .before .args .bytes .now in (
+    let high-put = c .before in
+    let turn = high-put .before .before .before in
+    let at = turn .loop in
+    let bytes = start (turn .before .before) .args .bytes .now in (
       at .inv .0,
       omega arith,
       omega arith,
       simp length-set (at .inv .3),
-      hexes-on (at .out) _ bytes (at .end) (at .i) (omega arith) (c .before .hex-digit .ensures) (c .hex-digit2 .ensures) (at .inv .4),
+      hexes-on (at .out) _ bytes (at .end) (at .i) (omega arith) (high-put .hex-digit .ensures) (c .hex-digit2 .ensures) (at .inv .4),
     )
 
 same-length : tie.Need-same-length Inv-loop μ-loop
@@ -83,10 +89,11 @@ same-length c = search needs
 
 returns-2 : tie.Need-returns-2 Inv-loop μ-loop
 returns-2 c =
-    let a = c .before .before .before .before .before .before .args in
+    let turn = c .before in
+    let at = turn .loop in
+    let a = start (turn .before .before) .args in
     let text = hexesOf (a .bytes .now) in
     let long = length-hexes (a .bytes .now) in
-    let at = c .before .loop in
     written (length text) text (a .at) (a .out .now) (omega arith)
     (omega arith, hexes-end (at .out) _ (a .bytes .now) (at .end) (at .i) (c .loop-test .left) (at .inv .4))
 

@@ -19,7 +19,10 @@ same-length : tie.Need-same-length
 same-length c = search needs
 
 returns-2 : tie.Need-returns-2
-returns-2 c = is-filled _ _ (c .before .before .before .before .before .is-hex .ensures) (c .before .before .before .before .if1 .left) (c .before .before .fill .ensures)
+returns-2 c =
+    let filled = c .before .before in
+    let hex = filled .before .before in
+    is-filled _ _ (hex .before .is-hex .ensures) (hex .if1 .left) (filled .fill .ensures)
 
 pub read-hex-spec : {M : Type 1} → statement M
 read-hex-spec = tie.close (tie.spec is-hex-requires returns fill-requires same-length returns-2)

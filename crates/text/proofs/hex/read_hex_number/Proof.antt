@@ -1,6 +1,7 @@
 -- `text::hex::read_hex_number` meets its contract. Assumes nothing.
-use Prim.Native.Nat.{_-_, _^_, _≤_, _<_}
+use Prim.Native.Nat.{ℕ, _-_, _^_, _≤_, _<_}
 use native.Mathlib.Omega.{arith}
+use mathlib.Core.List.{List}
 use mathlib.Core.Path.{_≡_, refl, sym, _∙_}
 use lib.ListN.{drop}
 use Rattle.text.specs.Hex.{allHex, hexValueFrom}
@@ -15,6 +16,14 @@ Inv-loop field width number₀ i₀ number i = (i ≤ width) × (number < 16 ^ i
 
 abbrev μ-loop : tie.MeasureT-loop
 μ-loop field width number₀ i₀ number i = width - i
+
+-- the field, from the head of a turn
+abbrev whole : tie.At-loop Inv-loop μ-loop → List ℕ
+whole turn = let right-width = turn .before in right-width .before .before .before .args .field .now
+
+-- in a turn a digit more has room
+digit-fits : (c : tie.In-loop Inv-loop μ-loop) → c .before .loop .number < 16 ^ 15
+digit-fits c = let at = c .before .loop in fifteen (at .i) (at .number) (omega arith) (at .inv .1)
 
 returns : tie.Need-returns Inv-loop μ-loop
 returns c = hex-wide _ _ (c .if1 .taken)
@@ -33,18 +42,18 @@ digit-value-requires c κs = search needs
 
 returns-3 : tie.Need-returns-3 Inv-loop μ-loop
 returns-3 c =
-    let at = c .before .before .before .before .loop in
-    let field = c .before .before .before .before .before .before .before .before .args .field .now in
-    hex-odd _ field (sym (at .inv .3) ∙ hex-bad field (at .i) (omega arith) _ (c .before .digit-value .ensures) (omega arith))
+    let read = c .before in
+    let turn = read .before .before .before in
+    hex-odd _ (whole turn) (sym (turn .loop .inv .3) ∙ hex-bad (whole turn) (turn .loop .i) (omega arith) _ (read .digit-value .ensures) (omega arith))
 
 mul-number : tie.Need-mul-number Inv-loop μ-loop
-mul-number c = let at = c .before .before .before .before .loop in let h = fifteen (at .i) (at .number) (omega arith) (at .inv .1) in search needs
+mul-number c = let h = digit-fits (c .before .before .before) in search needs
 
 cast-number : tie.Need-cast-number Inv-loop μ-loop
 cast-number c = search needs
 
 add-number : tie.Need-add-number Inv-loop μ-loop
-add-number c = let at = c .before .before .before .before .loop in let h = fifteen (at .i) (at .number) (omega arith) (at .inv .1) in search needs
+add-number c = let h = digit-fits (c .before .before .before) in search needs
 
 add-i : tie.Need-add-i Inv-loop μ-loop
 add-i c = search needs
@@ -54,19 +63,20 @@ loop-less c = search needs
 
 loop-again : tie.Need-loop-again Inv-loop μ-loop
 loop-again c =
-    let at = c .before .before .before .before .loop in
-    let field = c .before .before .before .before .before .before .before .before .args .field .now in
-    let read = c .before .digit-value .ensures in (
+    let read = c .before in
+    let turn = read .before .before .before in
+    let at = turn .loop in
+    let digit = read .digit-value .ensures in (
       omega arith,
       hexes-below (at .i) (at .number) _ (at .inv .1) (omega arith),
-      rw read (sym (value-on hexes field (at .i) (omega arith) (at .number)) ∙ at .inv .2),
-      sym (hex-good field (at .i) (omega arith) _ read (omega arith)) ∙ at .inv .3,
+      rw digit (sym (value-on hexes (whole turn) (at .i) (omega arith) (at .number)) ∙ at .inv .2),
+      sym (hex-good (whole turn) (at .i) (omega arith) _ digit (omega arith)) ∙ at .inv .3,
     )
 
 returns-4 : tie.Need-returns-4 Inv-loop μ-loop
 returns-4 c =
     let at = c .before .loop in
-    let field = c .before .before .before .before .before .args .field .now in
+    let field = whole (c .before) in
     hex-number _ field (omega arith) (omega arith) (sym (at .inv .3) ∙ hex-end field (at .i) (omega arith)) (at .number)
     (sym (value-end hexes field (at .i) (omega arith) (at .number)) ∙ at .inv .2)
 

@@ -17,13 +17,15 @@ returns : tie.Need-returns
 returns c = minus-bad _ (c .before .before .read-byte .ensures) (c .enum-told .given .1)
 
 returns-2 : tie.Need-returns-2
-returns-2 c = minus-zero _ (c .before .before .before .before .read-byte .ensures) _ (c .before .before .number .given .1) (c .if1 .taken)
+returns-2 c = let known = c .before .before in minus-zero _ (known .before .before .read-byte .ensures) _ (known .number .given .1) (c .if1 .taken)
 
 minus-requires : tie.Need-minus-requires
-minus-requires c κs = minus-≤ _ (c .before .before .before .before .read-byte .ensures) _ (c .before .before .number .given .1)
+minus-requires c κs = let known = c .before .before in minus-≤ _ (known .before .before .read-byte .ensures) _ (known .number .given .1)
 
 returns-3 : tie.Need-returns-3
-returns-3 c = minus-good _ (c .before .before .before .before .before .read-byte .ensures) _ (c .before .before .before .number .given .1) (c .before .if1 .left) (c .minus .ensures)
+returns-3 c =
+    let known = c .before .before .before in
+    minus-good _ (known .before .before .read-byte .ensures) _ (known .number .given .1) (c .before .if1 .left) (c .minus .ensures)
 
 pub negative-spec : {M : Type 1} → statement M
 negative-spec =

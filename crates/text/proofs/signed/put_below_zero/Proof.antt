@@ -24,9 +24,10 @@ has-room-requires c κs = search needs
 
 returns : tie.Need-returns
 returns c =
-    let a = c .before .before .before .before .args in
+    let counted = c .before .before in
+    let a = counted .before .before .args in
     let over = too-little _ (a .at) (a .out .now) (c .before .has-room .ensures) (c .if1 .taken) in
-    let long : length (minusAnd (a .digits)) ≡ 1 + c .before .before .places .result = omega (arith, c .before .before .places .ensures) in
+    let long : length (minusAnd (a .digits)) ≡ 1 + counted .places .result = omega (arith, counted .places .ensures) in
     unwritten (length (minusAnd (a .digits))) (minusAnd (a .digits)) (a .at) (a .out .now) (rw long over)
 
 put-byte-requires : tie.Need-put-byte-requires
@@ -40,14 +41,19 @@ same-length c = search needs
 
 returns-2 : tie.Need-returns-2
 returns-2 c =
-    let a = c .before .before .before .before .before .before .before .before .before .before .before .before .args in
+    let digits-put = c .before .before in
+    let digits-lent = digits-put .before in
+    let minus-put = digits-lent .before .before .before in
+    let roomy = minus-put .before .before in
+    let counted = roomy .before .before in
+    let a = counted .before .before .args in
     let text = minusAnd (a .digits) in
-    let room = enough _ (a .at) (a .out .now) (c .before .before .before .before .before .before .before .before .before .has-room .ensures) (c .before .before .before .before .before .before .before .before .if1 .left) in
-    let fits : a .at + length text ≤ length (a .out .now) = omega (arith, room, c .before .before .before .before .before .before .before .before .before .before .places .ensures) in
+    let room = enough _ (a .at) (a .out .now) (roomy .before .has-room .ensures) (roomy .if1 .left) in
+    let fits : a .at + length text ≤ length (a .out .now) = omega (arith, room, counted .places .ensures) in
     written (length text) text (a .at) (a .out .now) fits
     (then (minus ∷ []) (decimalOf (a .digits)) (a .at) (a .out .now) fits
-    (stored 1 (minus ∷ []) (a .at) (a .out .now) (omega arith) (c .before .before .before .before .before .before .put-byte .ensures))
-    (c .before .before .put-decimal .ensures))
+    (stored 1 (minus ∷ []) (a .at) (a .out .now) (omega arith) (minus-put .put-byte .ensures))
+    (digits-put .put-decimal .ensures))
 
 pub put-below-zero-spec : {M : Type 1} → statement M
 put-below-zero-spec =

@@ -15,8 +15,11 @@ same-length c = search needs
 
 returns : tie.Need-returns
 returns c =
-    let start = c .before .before .before .before .before .before .before in
-    rw (with-minus (start .args .number) (start .fits .number) (c .before .before .before .before .if1 .taken), ← c .before .before .before .before .before .magnitude .ensures) (c .before .before .put-below-zero .ensures)
+    let put = c .before .before in
+    let below-zero = put .before .before in
+    let measured = below-zero .before in
+    let start = measured .before .before in
+    rw (with-minus (start .args .number) (start .fits .number) (below-zero .if1 .taken), ← measured .magnitude .ensures) (put .put-below-zero .ensures)
 
 put-decimal-requires : tie.Need-put-decimal-requires
 put-decimal-requires c κs = search needs
@@ -26,8 +29,11 @@ same-length-2 c = search needs
 
 returns-2 : tie.Need-returns-2
 returns-2 c =
-    let start = c .before .before .before .before .before .before .before in
-    rw (without-minus (start .args .number) (start .fits .number) (c .before .before .before .before .if1 .left), ← c .before .before .before .before .before .magnitude .ensures) (c .before .before .put-decimal .ensures)
+    let put = c .before .before in
+    let not-below = put .before .before in
+    let measured = not-below .before in
+    let start = measured .before .before in
+    rw (without-minus (start .args .number) (start .fits .number) (not-below .if1 .left), ← measured .magnitude .ensures) (put .put-decimal .ensures)
 
 pub put-signed-spec : {M : Type 1} → statement M
 put-signed-spec =

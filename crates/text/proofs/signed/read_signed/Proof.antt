@@ -39,10 +39,17 @@ returns-3 : tie.Need-returns-3
 returns-3 c = signed-bad _ (c .before .before .before .if2 .left) (c .before .before .read-byte .ensures) (c .enum-told .given .1)
 
 cast-t12 : tie.Need-cast-t12
-cast-t12 c = let h = signed-≤ _ (c .before .before .before .before .if2 .left) (c .before .before .before .read-byte .ensures) _ (c .before .number .given .1) in record { sfits = omega arith }
+cast-t12 c =
+    let known = c .before in
+    let read = known .before .before in
+    let h = signed-≤ _ (read .before .if2 .left) (read .read-byte .ensures) _ (known .number .given .1) in
+    record { sfits = omega arith }
 
 returns-4 : tie.Need-returns-4
-returns-4 c = signed-good _ (c .before .before .before .before .if2 .left) (c .before .before .before .read-byte .ensures) _ (c .before .number .given .1)
+returns-4 c =
+    let known = c .before in
+    let read = known .before .before in
+    signed-good _ (read .before .if2 .left) (read .read-byte .ensures) _ (known .number .given .1)
 
 pub read-signed-spec : {M : Type 1} → statement M
 read-signed-spec =

@@ -15,6 +15,10 @@ Inv-loop field word i₀ i = (i ≤ length field) × (sameText (drop i field) (d
 abbrev μ-loop : tie.MeasureT-loop
 μ-loop field word i₀ i = length field - i
 
+-- the start, from the head of a turn
+abbrev start : tie.At-loop Inv-loop μ-loop → tie.Start Inv-loop μ-loop
+start turn = turn .before .before
+
 returns : tie.Need-returns Inv-loop μ-loop
 returns c = sym (same-length _ _ (c .if1 .taken))
 
@@ -29,8 +33,10 @@ shared-slice-read-if2-2 c = search needs
 
 returns-2 : tie.Need-returns-2 Inv-loop μ-loop
 returns-2 c =
-    let at = c .before .before .before .before .loop in
-    sym (same-off (c .before .before .before .before .before .before .args .field .now) (c .before .before .before .before .before .before .args .word .now) (at .i) (omega arith) (omega arith) (c .if2 .taken)) ∙ at .inv .1
+    let both-read = c .before in
+    let turn = both-read .before .before .before in
+    let a = start turn .args in
+    sym (same-off (a .field .now) (a .word .now) (turn .loop .i) (omega arith) (omega arith) (c .if2 .taken)) ∙ turn .loop .inv .1
 
 add-i : tie.Need-add-i Inv-loop μ-loop
 add-i c = search needs
@@ -40,11 +46,16 @@ loop-less c = search needs
 
 loop-again : tie.Need-loop-again Inv-loop μ-loop
 loop-again c =
-    let at = c .before .before .before .before .loop in
-    (omega arith, sym (same-on (c .before .before .before .before .before .before .args .field .now) (c .before .before .before .before .before .before .args .word .now) (at .i) (omega arith) (omega arith) (c .if2 .left)) ∙ at .inv .1)
+    let both-read = c .before in
+    let turn = both-read .before .before .before in
+    let a = start turn .args in
+    (omega arith, sym (same-on (a .field .now) (a .word .now) (turn .loop .i) (omega arith) (omega arith) (c .if2 .left)) ∙ turn .loop .inv .1)
 
 returns-3 : tie.Need-returns-3 Inv-loop μ-loop
-returns-3 c = let at = c .before .loop in sym (same-end (c .before .before .before .args .field .now) (c .before .before .before .args .word .now) (at .i) (omega arith) (omega arith)) ∙ at .inv .1
+returns-3 c =
+    let turn = c .before in
+    let a = start turn .args in
+    sym (same-end (a .field .now) (a .word .now) (turn .loop .i) (omega arith) (omega arith)) ∙ turn .loop .inv .1
 
 pub is-spec : {M : Type 1} → statement M
 is-spec =

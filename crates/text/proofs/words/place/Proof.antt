@@ -36,8 +36,8 @@ is-requires c κs = search needs
 
 returns : tie.Need-returns Inv-loop μ-loop
 returns c =
-    let on = c .before .before .before .before in
-    omega (arith, place-here _ _ _ _ (on .loop-test .taken) (c .before .before .before .find .ensures) (c .before .is .ensures) (c .if1 .taken))
+    let found = c .before .before .before in
+    omega (arith, place-here _ _ _ _ (found .before .loop-test .taken) (found .find .ensures) (c .before .is .ensures) (c .if1 .taken))
 
 add-n : tie.Need-add-n Inv-loop μ-loop
 add-n c = search needs
@@ -50,13 +50,16 @@ loop-less c = search needs
 
 loop-again : tie.Need-loop-again Inv-loop μ-loop
 loop-again c =
-    let found = c .before .before .before .find .ensures in
-    let h = found-≤ _ _ _ _ found (omega arith) in
-    let on = place-on _ _ _ _ (c .before .before .before .before .loop-test .taken) found (c .before .is .ensures) (c .if1 .left) in
+    let found = c .before .before .before in
+    let h = found-≤ _ _ _ _ (found .find .ensures) (omega arith) in
+    let on = place-on _ _ _ _ (found .before .loop-test .taken) (found .find .ensures) (c .before .is .ensures) (c .if1 .left) in
     (omega arith, omega arith, omega arith)
 
 returns-2 : tie.Need-returns-2 Inv-loop μ-loop
-returns-2 c = let a = c .before .before .before .before .args in omega (arith, place-end (a .field .now) (a .words .now) (c .before .loop .from) (c .loop-test .left))
+returns-2 c =
+    let turn = c .before in
+    let a = turn .before .before .before .args in
+    omega (arith, place-end (a .field .now) (a .words .now) (turn .loop .from) (c .loop-test .left))
 
 pub place-spec : {M : Type 1} → statement M
 place-spec =

@@ -16,31 +16,33 @@ Inv-loop out₀ at text i₀ out i = (i ≤ length text) × (length out ≡ leng
 abbrev μ-loop : tie.MeasureT-loop
 μ-loop out₀ at text i₀ out i = length text - i
 
+-- the start, from the test of the room
+abbrev start : tie.After-has-room Inv-loop μ-loop → tie.Start Inv-loop μ-loop
+start tested = tested .before .before .before
+
+-- past the test the text has room
+fits : (c : tie.Else1 Inv-loop μ-loop) → let a = start (c .before) .args in a .at + length (a .text .now) ≤ length (a .out .now)
+fits c = let a = start (c .before) .args in enough _ (a .at) (a .out .now) (c .before .has-room .ensures) (c .if1 .left)
+
 has-room-requires : tie.Need-has-room-requires Inv-loop μ-loop
 has-room-requires c κs = search needs
 
 returns : tie.Need-returns Inv-loop μ-loop
 returns c =
-    let a = c .before .before .before .before .args in
+    let a = start (c .before) .args in
     unwritten _ (a .text .now) (a .at) (a .out .now) (too-little _ (a .at) (a .out .now) (c .before .has-room .ensures) (c .if1 .taken))
 
 loop-holds : tie.Need-loop-holds Inv-loop μ-loop
-loop-holds c = let a = c .before .before .before .before .args in (omega arith, refl, ap (λ (k : ℕ). sets (a .out .now) k (a .text .now)) (add-zero (a .at)))
+loop-holds c = let a = start (c .before) .args in (omega arith, refl, ap (λ (k : ℕ). sets (a .out .now) k (a .text .now)) (add-zero (a .at)))
 
 shared-slice-read-out : tie.Need-shared-slice-read-out Inv-loop μ-loop
 shared-slice-read-out c = search needs
 
 add-out : tie.Need-add-out Inv-loop μ-loop
-add-out c =
-    let a = c .before .before .before .before .before .before .before .args in
-    let h = enough _ (a .at) (a .out .now) (c .before .before .before .before .has-room .ensures) (c .before .before .before .if1 .left) in
-    search needs
+add-out c = let h = fits (c .before .before .before) in search needs
 
 slice-write-out : tie.Need-slice-write-out Inv-loop μ-loop
-slice-write-out c =
-    let a = c .before .before .before .before .before .before .before .args in
-    let h = enough _ (a .at) (a .out .now) (c .before .before .before .before .has-room .ensures) (c .before .before .before .if1 .left) in
-    search needs
+slice-write-out c = let h = fits (c .before .before .before) in search needs
 
 add-i : tie.Need-add-i Inv-loop μ-loop
 add-i c = search needs
@@ -52,20 +54,16 @@ loop-again : tie.Need-loop-again Inv-loop μ-loop
 loop-again c = let inv = c .before .before .loop .inv in (omega arith, simp length-set (inv .1), copy-on _ _ _ _ _ (c .before .loop-test .taken) (inv .2))
 
 add-result : tie.Need-add-result Inv-loop μ-loop
-add-result c =
-    let a = c .before .before .before .before .before .before .args in
-    let h = enough _ (a .at) (a .out .now) (c .before .before .before .has-room .ensures) (c .before .before .if1 .left) in
-    search needs
+add-result c = let h = fits (c .before .before) in search needs
 
 same-length : tie.Need-same-length Inv-loop μ-loop
 same-length c = search needs
 
 returns-2 : tie.Need-returns-2 Inv-loop μ-loop
 returns-2 c =
-    let a = c .before .before .before .before .before .before .args in
-    let at = c .before .loop in
-    written _ (a .text .now) (a .at) (a .out .now) (enough _ (a .at) (a .out .now) (c .before .before .before .has-room .ensures) (c .before .before .if1 .left))
-    (omega arith, copy-end _ _ _ _ _ (c .loop-test .left) (at .inv .2))
+    let roomy = c .before .before in
+    let a = start (roomy .before) .args in
+    written _ (a .text .now) (a .at) (a .out .now) (fits roomy) (omega arith, copy-end _ _ _ _ _ (c .loop-test .left) (c .before .loop .inv .2))
 
 pub put-text-spec : {M : Type 1} → statement M
 put-text-spec =
