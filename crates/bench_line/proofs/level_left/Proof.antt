@@ -39,10 +39,16 @@ loop-less : tie.Need-loop-less Inv-loop μ-loop
 loop-less c = search needs
 
 loop-again : tie.Need-loop-again Inv-loop μ-loop
-loop-again c = (search needs, rw add-one (left-high _ _ _ (c .before .before .before .before .loop .inv .1) (sym (c .before .driven-high .ensures) ∙ c .if1 .taken)))
+loop-again c =
+    let read = c .before in
+    let turn = read .before .before .before in
+    (search needs, rw add-one (left-high _ _ _ (turn .loop .inv .1) (sym (read .driven-high .ensures) ∙ c .if1 .taken)))
 
 returns : tie.Need-returns Inv-loop μ-loop
-returns c = sym (left-low (c .before .before .before .before .loop .i) _ _ _ (search needs) (search needs) (sym (c .before .driven-high .ensures) ∙ c .if1 .left))
+returns c =
+    let read = c .before in
+    let turn = read .before .before .before in
+    sym (left-low (turn .loop .i) _ _ _ (search needs) (search needs) (sym (read .driven-high .ensures) ∙ c .if1 .left))
 
 returns-2 : tie.Need-returns-2 Inv-loop μ-loop
 returns-2 c = sym (c .before .loop .inv .1) ∙ ap (λ (n : ℕ). levelLeft n (c .before .before .args .t1)) (omega arith)

@@ -46,11 +46,10 @@ loop-less c = search needs
 
 loop-again : tie.Need-loop-again Inv-loop μ-loop
 unfolding ticked
-loop-again c = (
-  search needs,
-  simp (add-one, c .before .tick .ensures, c .before .before .before .before .loop .inv .1)
-      (tick-next _ _ _ _),
-)
+loop-again c =
+    let ticks = c .before in
+    let turn = ticks .before .before .before in
+    (search needs, simp (add-one, ticks .tick .ensures, turn .loop .inv .1) (tick-next _ _ _ _))
 
 returns : tie.Need-returns Inv-loop μ-loop
 returns c = c .before .loop .inv .1 ∙ ap (λ (n : ℕ). allTicked n (c .before .before .args .level) (c .before .before .args .stations)) (omega arith)

@@ -19,7 +19,7 @@ with-requires c κs = search needs
 
 returns : tie.Need-returns
 unfolding tookRxAt
-returns c = simp (← c .with .ensures, on-true (sym (c .before .before .before .before .has .ensures) ∙ c .before .before .before .if1 .taken))
+returns c = let there = c .before .before .before in simp (← c .with .ensures, on-true (sym (there .before .has .ensures) ∙ there .if1 .taken))
 
 new-requires : tie.Need-new-requires
 new-requires c κs = search needs
