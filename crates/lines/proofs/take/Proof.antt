@@ -1,7 +1,9 @@
 -- `lines::take` meets its contract. Assumes nothing.
-use Prim.Native.Nat.{_≤_, _<_}
+use Prim.Native.Nat.{ℕ, _-_, _≤_, _<_}
 use native.Mathlib.Omega.{arith}
 use mathlib.Core.Bool.{true, false}
+use mathlib.Core.List.{List}
+use mathlib.Core.Path.{_≡_}
 use lib.ListN.{length, drop, length-drop}
 use borrow.Author.Needs.{needs}
 use borrow.Author.Tests.{lt-ltb, le-ltb}
@@ -11,6 +13,23 @@ use Rattle.text.proofs.FieldLaws.{found-≤}
 use Rattle.lines.proofs.Kept.{part-taken, none-taken}
 use Rattle.lines.proofs.take.Statement.{statement}
 use Rattle.lines.proofs.take.Tie as tie
+
+-- where the end of the line was looked for
+module _ (found : tie.After-find) where
+  abbrev chunk : List ℕ
+  chunk = found .before .before .before .args .chunk .now
+
+  abbrev from : ℕ
+  from = found .before .before .before .args .from
+
+  abbrev rest : List ℕ
+  rest = drop from chunk
+
+  rest-size : length rest ≡ length chunk - from
+  rest-size = length-drop from chunk
+
+  within : found .find .result ≤ length chunk
+  within = found-≤ lf chunk from (found .find .result) (found .find .ensures) (omega arith)
 
 returns : tie.Need-returns
 returns c = none-taken _ _ _ _ (c .if1 .taken)
@@ -25,34 +44,29 @@ part-keep-start : tie.Need-part-keep-start
 part-keep-start c = search needs
 
 part-keep-end : tie.Need-part-keep-end
-part-keep-end c = let start = c .before .before .before .before .args in found-≤ lf (start .chunk .now) (start .from) (c .before .find .result) (c .before .find .ensures) (omega arith)
+part-keep-end c = within (c .before)
 
 keep-requires : tie.Need-keep-requires
 keep-requires c κs = search needs
 
 returns-2 : tie.Need-returns-2
 returns-2 c =
-    let start = c .before .before .before .before .before .before .before .args in
-    let found = c .before .before .before .before .find .ensures in
-    let size = length-drop (start .from) (start .chunk .now) in
-    let over : length (drop (start .from) (start .chunk .now)) ≤ bytesBefore lf (drop (start .from) (start .chunk .now)) = omega arith in
-    part-taken _ _ (start .chunk .now) (start .from) false (le-ltb _ _ over) found (omega arith) (c .before .keep .ensures)
+    let kept = c .before in
+    let found = kept .before .before .before in
+    let over : length (rest found) ≤ bytesBefore lf (rest found) = omega (arith, rest-size found) in
+    part-taken _ _ (chunk found) (from found) false (le-ltb _ _ over) (found .find .ensures) (omega arith) (kept .keep .ensures)
 
 add-next : tie.Need-add-next
 add-next c =
-    let start = c .before .before .before .before .before .before .before .args in
-    let find = c .before .before .before .before .find in
-    let end = found-≤ lf (start .chunk .now) (start .from) (find .result) (find .ensures) (omega arith) in
-    record { fits = omega (arith, c .if2 .left) }
+    let kept = c .before in
+    record { fits = omega (arith, within (kept .before .before .before), c .if2 .left) }
 
 returns-3 : tie.Need-returns-3
 returns-3 c =
-    let start = c .before .before .before .before .before .before .before .args in
-    let find = c .before .before .before .before .find in
-    let end = found-≤ lf (start .chunk .now) (start .from) (find .result) (find .ensures) (omega arith) in
-    let size = length-drop (start .from) (start .chunk .now) in
-    let within : bytesBefore lf (drop (start .from) (start .chunk .now)) < length (drop (start .from) (start .chunk .now)) = omega (arith, c .if2 .left) in
-    part-taken _ _ (start .chunk .now) (start .from) true (lt-ltb _ _ within) (find .ensures) (omega arith) (c .before .keep .ensures)
+    let kept = c .before in
+    let found = kept .before .before .before in
+    let ends : bytesBefore lf (rest found) < length (rest found) = omega (arith, rest-size found, within found, c .if2 .left) in
+    part-taken _ _ (chunk found) (from found) true (lt-ltb _ _ ends) (found .find .ensures) (omega arith) (kept .keep .ensures)
 
 pub take-spec : {M : Type 1} → statement M
 take-spec =
