@@ -15,26 +15,37 @@ use Rattle.bench_text.proofs.parse_line.Tie as tie
 -- ---- what the tests say of the line
 -- there are four fields, and the first was compared
 module _ (c : tie.After-is) where
+  abbrev four : tie.Else2
+  four = c .before .before .before
+
+  abbrev not-long : tie.Else1
+  not-long = four .before .before
+
   abbrev text : List ℕ
-  text = c .before .before .before .before .before .before .before .args .text .now
+  text = not-long .before .before .args .text .now
 
   short : length text ≤ lineMax
-  short = c .before .before .before .before .before .if1 .left
+  short = not-long .if1 .left
 
   compared : hasFields text ≡ c .is .result
-  compared = by-word _ (c .before .before .before .before .count .ensures) (c .before .before .before .if2 .left) (c .before .before .field .ensures) (c .is .ensures)
+  compared = by-word _ (four .before .count .ensures) (four .if2 .left) (c .before .before .field .ensures) (c .is .ensures)
 
 fields : (c : tie.Else3) → hasFields (text (c .before)) ≡ true
 fields c = compared (c .before) ∙ not-false _ (c .if3 .left)
 
 -- the silence is a number
-silence : (c : tie.After-known-told) → Number silenceMax (silenceField (text (c .before .before .before .before .before .before))) (c .before .silence .given .0 .0)
-silence c = a-number silenceMax (c .before .before .before .before .field2 .ensures) (c .before .before .before .read-byte .ensures) (c .before .silence .given .1)
+abbrev before-silence : tie.After-known-told → tie.Else3
+before-silence c = let read = c .before .before .before in read .before .before
+
+silence : (c : tie.After-known-told) → Number silenceMax (silenceField (text (before-silence c .before))) (c .before .silence .given .0 .0)
+silence c = let read = c .before .before .before in a-number silenceMax (read .before .field2 .ensures) (read .read-byte .ensures) (c .before .silence .given .1)
 
 -- and so is the count
-count : (c : tie.After-known-told2)
-    → Number countMax (countField (text (c .before .before .before .before .before .before .before .before .before .before .before))) (c .before .count2 .given .0 .0)
-count c = a-number countMax (c .before .before .before .before .field3 .ensures) (c .before .before .before .read-byte2 .ensures) (c .before .count2 .given .1)
+abbrev before-count : tie.After-known-told2 → tie.After-known-told
+before-count c = let read = c .before .before .before in read .before .before
+
+count : (c : tie.After-known-told2) → Number countMax (countField (text (before-silence (before-count c) .before))) (c .before .count2 .given .0 .0)
+count c = let read = c .before .before .before in a-number countMax (read .before .field3 .ensures) (read .read-byte2 .ensures) (c .before .count2 .given .1)
 
 -- ---- what the borrow checker leaves
 refused-requires : tie.Need-refused-requires
@@ -87,8 +98,9 @@ refused-requires-4 c κs = search needs
 
 returns-4 : tie.Need-returns-4
 returns-4 c =
-    let at = c .before .before .before .before .before in
-    let bad = no-number silenceMax (c .before .before .before .before .field2 .ensures) (c .before .before .before .read-byte .ensures) (c .before .enum-told .given .1) in
+    let read = c .before .before .before in
+    let at = read .before .before in
+    let bad = no-number silenceMax (read .before .field2 .ensures) (read .read-byte .ensures) (c .before .enum-told .given .1) in
     with-number _ (c .refused4 .ensures ∙ no-silence _ (short (at .before)) (fields at) bad)
 
 field-requires-3 : tie.Need-field-requires-3
@@ -108,8 +120,9 @@ refused-requires-5 c κs = search needs
 
 returns-5 : tie.Need-returns-5
 returns-5 c =
-    let at = c .before .before .before .before .before .before .before .before .before .before in
-    let bad = no-number countMax (c .before .before .before .before .field3 .ensures) (c .before .before .before .read-byte2 .ensures) (c .before .enum-told2 .given .1) in
+    let read = c .before .before .before in
+    let at = before-silence (read .before .before) in
+    let bad = no-number countMax (read .before .field3 .ensures) (read .read-byte2 .ensures) (c .before .enum-told2 .given .1) in
     with-number _ (c .refused5 .ensures ∙ no-count _ (short (at .before)) (fields at) bad)
 
 cast-n : tie.Need-cast-n
@@ -132,20 +145,24 @@ refused-requires-6 c κs = search needs
 
 returns-6 : tie.Need-returns-6
 returns-6 c =
-    let counted = c .before .before .before .before .before .before in
-    let silent = counted .before .before .before .before .before in
-    let at = silent .before .before .before .before .before in
+    let read = c .before .before .before in
+    let counted = read .before .before .before in
+    let silent = before-count counted in
+    let at = before-silence silent in
     with-number _ (c .refused6 .ensures
     ∙ no-samples _ (short (at .before)) (fields at) (silence silent) (count counted)
-    (c .before .before .before .before .before .field4 .ensures) (c .before .before .before .read-hex .ensures .0) (c .before .if4 .taken))
+    (read .before .before .field4 .ensures) (read .read-hex .ensures .0) (c .before .if4 .taken))
 
 returns-7 : tie.Need-returns-7
 returns-7 c =
-    let counted = c .before .before .before .before .before in
-    let silent = counted .before .before .before .before .before in
-    let at = silent .before .before .before .before .before in
-    let read = c .before .before .read-hex .ensures in
-    with-number _ (good-line _ (short (at .before)) (fields at) (silence silent) (count counted) (c .before .before .before .before .field4 .ensures) (read .0) (c .if4 .left) (read .1))
+    let read = c .before .before in
+    let counted = read .before .before .before in
+    let silent = before-count counted in
+    let at = before-silence silent in
+    let hex = read .read-hex .ensures in
+    with-number _
+    (good-line _ (short (at .before)) (fields at) (silence silent) (count counted)
+    (read .before .before .field4 .ensures) (hex .0) (c .if4 .left) (hex .1))
 
 pub parse-line-spec : {M : Type 1} → statement M
 parse-line-spec =
