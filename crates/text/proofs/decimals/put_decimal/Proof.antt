@@ -1,6 +1,5 @@
 -- `text::decimals::put_decimal` meets its contract. Assumes nothing.
 use native.Mathlib.Omega.{arith}
-use Rattle.text.specs.Decimals.{decimalOf}
 use Rattle.text.proofs.WritingLaws.{told}
 use Rattle.text.proofs.DecimalLaws.{decimal-put}
 use borrow.Author.Needs.{needs}
@@ -19,9 +18,7 @@ same-length c = search needs
 returns : tie.Need-returns
 returns c =
     let put = c .before .before in
-    let counted = put .before in
-    let a = counted .before .before .before .args in
-    told (decimalOf (a .number)) (a .at) (a .out .now) (decimal-put (a .number) (omega arith) (counted .places .ensures) (put .put-digits .ensures))
+    told _ _ _ (decimal-put _ (omega arith) (put .before .places .ensures) (put .put-digits .ensures))
 
 pub put-decimal-spec : {M : Type 1} → statement M
 put-decimal-spec = tie.close (tie.spec places-requires put-digits-requires same-length returns)

@@ -39,7 +39,7 @@ module _ (c : tie.Else2 Inv-loop μ-loop) where
   digit = sym (c .before .is-digit .ensures) ∙ not-false _ (c .if2 .left)
 
   value-next : valueFrom (turn .loop .number * 10 + (byte - letter "0")) (drop (turn .loop .i + 1) (whole turn)) ≡ valueOf (whole turn)
-  value-next = sym (value-on decimals (whole turn) (turn .loop .i) (inside .loop-test .taken) (turn .loop .number)) ∙ turn .loop .inv .2
+  value-next = sym (value-on decimals _ _ (inside .loop-test .taken) _) ∙ turn .loop .inv .2
 
 well-begun-requires : tie.Need-well-begun-requires Inv-loop μ-loop
 well-begun-requires c κs = search needs
@@ -60,10 +60,8 @@ returns-2 : tie.Need-returns-2 Inv-loop μ-loop
 returns-2 c =
     let tested = c .before in
     let inside = tested .before .before in
-    let at = inside .before .loop in
-    let field = whole (inside .before) in
     let no-digit = sym (tested .is-digit .ensures) ∙ not-true _ (c .if2 .taken) in
-    number-odd _ _ (not-digits field (sym (at .inv .3) ∙ digits-on field (at .i) (inside .loop-test .taken) no-digit))
+    number-odd _ _ (not-digits _ (sym (inside .before .loop .inv .3) ∙ digits-on _ _ (inside .loop-test .taken) no-digit))
 
 mul-number : tie.Need-mul-number Inv-loop μ-loop
 mul-number c = search needs
@@ -92,21 +90,19 @@ loop-less c = search needs
 
 loop-again : tie.Need-loop-again Inv-loop μ-loop
 loop-again c =
-    let added = c .before in
-    let at = turn added .loop in (
+    let added = c .before in (
       omega arith,
       omega arith,
       value-next added,
-      sym (digits-on (whole (turn added)) (at .i) (inside added .loop-test .taken) (digit added)) ∙ at .inv .3,
+      sym (digits-on _ _ (inside added .loop-test .taken) (digit added)) ∙ turn added .loop .inv .3,
     )
 
 returns-4 : tie.Need-returns-4 Inv-loop μ-loop
 returns-4 c =
     let at = c .before .loop in
-    let field = whole (c .before) in
     let begun = c .before .before .before .well-begun in
-    let decimal = well-begun field (begun .result) (begun .ensures) (c .before .before .if1 .left) ∙ sym (at .inv .3) ∙ digits-end field (at .i) (c .loop-test .left) in
-    number-good _ field decimal (at .number) (sym (value-end decimals field (at .i) (c .loop-test .left) (at .number)) ∙ at .inv .2) (at .inv .1)
+    let decimal = well-begun _ (begun .result) (begun .ensures) (c .before .before .if1 .left) ∙ sym (at .inv .3) ∙ digits-end _ _ (c .loop-test .left) in
+    number-good _ _ decimal _ (sym (value-end decimals _ _ (c .loop-test .left) _) ∙ at .inv .2) (at .inv .1)
 
 pub read-number-spec : {M : Type 1} → statement M
 read-number-spec =

@@ -33,10 +33,10 @@ module _ (c : tie.After-digit-value2 Inv-loop μ-loop) where
   two-left = omega arith
 
   high-below : high-read .digit-value .result < 16
-  high-below = rw (high-read .digit-value .ensures) (top-small digits (turn .loop .i) two-left (turn .loop .inv .3))
+  high-below = rw (high-read .digit-value .ensures) (top-small _ _ two-left (turn .loop .inv .3))
 
   low-below : c .digit-value2 .result < 16
-  low-below = rw (c .digit-value2 .ensures) (low-small digits (turn .loop .i) two-left (turn .loop .inv .3))
+  low-below = rw (c .digit-value2 .ensures) (low-small _ _ two-left (turn .loop .inv .3))
 
 loop-holds : tie.Need-loop-holds Inv-loop μ-loop
 loop-holds c = (omega arith, search needs, search needs, c .before .before .pre .1)
@@ -82,8 +82,8 @@ loop-again c =
     let at = turn c .loop in (
       omega arith,
       simp length-set (at .inv .1),
-      bytes-on (digits c) (at .i) (two-left c) _ _ (high-read c .digit-value .ensures) (c .digit-value2 .ensures) (at .bytes) (omega arith) (at .inv .2),
-      still-hex (digits c) (at .i) (two-left c) (at .inv .3),
+      bytes-on _ _ (two-left c) _ _ (high-read c .digit-value .ensures) (c .digit-value2 .ensures) (at .bytes) (omega arith) (at .inv .2),
+      still-hex _ _ (two-left c) (at .inv .3),
     )
 
 same-length : tie.Need-same-length Inv-loop μ-loop

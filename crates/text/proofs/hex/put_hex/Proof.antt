@@ -74,14 +74,13 @@ loop-less c = search needs
 loop-again : tie.Need-loop-again Inv-loop μ-loop
 loop-again c =
     let high-put = c .before in
-    let turn = high-put .before .before .before in
-    let at = turn .loop in
-    let bytes = start (turn .before .before) .args .bytes .now in (
+    let inside = high-put .before .before in
+    let at = inside .before .loop in (
       at .inv .0,
       omega arith,
       omega arith,
       simp length-set (at .inv .3),
-      hexes-on (at .out) _ bytes (at .end) (at .i) (omega arith) (high-put .hex-digit .ensures) (c .hex-digit2 .ensures) (at .inv .4),
+      hexes-on _ _ _ _ _ (inside .loop-test .taken) (high-put .hex-digit .ensures) (c .hex-digit2 .ensures) (at .inv .4),
     )
 
 same-length : tie.Need-same-length Inv-loop μ-loop
@@ -95,7 +94,7 @@ returns-2 c =
     let text = hexesOf (a .bytes .now) in
     let long = length-hexes (a .bytes .now) in
     written (length text) text (a .at) (a .out .now) (omega arith)
-    (omega arith, hexes-end (at .out) _ (a .bytes .now) (at .end) (at .i) (c .loop-test .left) (at .inv .4))
+    (omega arith, hexes-end _ _ _ _ _ (c .loop-test .left) (at .inv .4))
 
 pub put-hex-spec : {M : Type 1} → statement M
 put-hex-spec =

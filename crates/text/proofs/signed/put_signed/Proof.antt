@@ -18,8 +18,7 @@ returns c =
     let put = c .before .before in
     let below-zero = put .before .before in
     let measured = below-zero .before in
-    let start = measured .before .before in
-    rw (with-minus (start .args .number) (start .fits .number) (below-zero .if1 .taken), ← measured .magnitude .ensures) (put .put-below-zero .ensures)
+    rw (with-minus _ (measured .before .before .fits .number) (below-zero .if1 .taken), ← measured .magnitude .ensures) (put .put-below-zero .ensures)
 
 put-decimal-requires : tie.Need-put-decimal-requires
 put-decimal-requires c κs = search needs
@@ -32,8 +31,7 @@ returns-2 c =
     let put = c .before .before in
     let not-below = put .before .before in
     let measured = not-below .before in
-    let start = measured .before .before in
-    rw (without-minus (start .args .number) (start .fits .number) (not-below .if1 .left), ← measured .magnitude .ensures) (put .put-decimal .ensures)
+    rw (without-minus _ (measured .before .before .fits .number) (not-below .if1 .left), ← measured .magnitude .ensures) (put .put-decimal .ensures)
 
 pub put-signed-spec : {M : Type 1} → statement M
 put-signed-spec =

@@ -15,10 +15,6 @@ Inv-loop field word i₀ i = (i ≤ length field) × (sameText (drop i field) (d
 abbrev μ-loop : tie.MeasureT-loop
 μ-loop field word i₀ i = length field - i
 
--- the start, from the head of a turn
-abbrev start : tie.At-loop Inv-loop μ-loop → tie.Start Inv-loop μ-loop
-start turn = turn .before .before
-
 returns : tie.Need-returns Inv-loop μ-loop
 returns c = sym (same-length _ _ (c .if1 .taken))
 
@@ -33,10 +29,8 @@ shared-slice-read-if2-2 c = search needs
 
 returns-2 : tie.Need-returns-2 Inv-loop μ-loop
 returns-2 c =
-    let both-read = c .before in
-    let turn = both-read .before .before .before in
-    let a = start turn .args in
-    sym (same-off (a .field .now) (a .word .now) (turn .loop .i) (omega arith) (omega arith) (c .if2 .taken)) ∙ turn .loop .inv .1
+    let inside = c .before .before .before in
+    sym (same-off _ _ _ (inside .loop-test .taken) (omega arith) (c .if2 .taken)) ∙ inside .before .loop .inv .1
 
 add-i : tie.Need-add-i Inv-loop μ-loop
 add-i c = search needs
@@ -46,16 +40,11 @@ loop-less c = search needs
 
 loop-again : tie.Need-loop-again Inv-loop μ-loop
 loop-again c =
-    let both-read = c .before in
-    let turn = both-read .before .before .before in
-    let a = start turn .args in
-    (omega arith, sym (same-on (a .field .now) (a .word .now) (turn .loop .i) (omega arith) (omega arith) (c .if2 .left)) ∙ turn .loop .inv .1)
+    let inside = c .before .before .before in
+    (omega arith, sym (same-on _ _ _ (inside .loop-test .taken) (omega arith) (c .if2 .left)) ∙ inside .before .loop .inv .1)
 
 returns-3 : tie.Need-returns-3 Inv-loop μ-loop
-returns-3 c =
-    let turn = c .before in
-    let a = start turn .args in
-    sym (same-end (a .field .now) (a .word .now) (turn .loop .i) (omega arith) (omega arith)) ∙ turn .loop .inv .1
+returns-3 c = sym (same-end _ _ _ (c .loop-test .left) (omega arith)) ∙ c .before .loop .inv .1
 
 pub is-spec : {M : Type 1} → statement M
 is-spec =

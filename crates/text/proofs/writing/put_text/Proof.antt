@@ -30,7 +30,7 @@ has-room-requires c κs = search needs
 returns : tie.Need-returns Inv-loop μ-loop
 returns c =
     let a = start (c .before) .args in
-    unwritten _ (a .text .now) (a .at) (a .out .now) (too-little _ (a .at) (a .out .now) (c .before .has-room .ensures) (c .if1 .taken))
+    unwritten _ _ _ _ (too-little _ (a .at) (a .out .now) (c .before .has-room .ensures) (c .if1 .taken))
 
 loop-holds : tie.Need-loop-holds Inv-loop μ-loop
 loop-holds c = let a = start (c .before) .args in (omega arith, refl, ap (λ (k : ℕ). sets (a .out .now) k (a .text .now)) (add-zero (a .at)))
@@ -61,9 +61,7 @@ same-length c = search needs
 
 returns-2 : tie.Need-returns-2 Inv-loop μ-loop
 returns-2 c =
-    let roomy = c .before .before in
-    let a = start (roomy .before) .args in
-    written _ (a .text .now) (a .at) (a .out .now) (fits roomy) (omega arith, copy-end _ _ _ _ _ (c .loop-test .left) (c .before .loop .inv .2))
+    written _ _ _ _ (fits (c .before .before)) (omega arith, copy-end _ _ _ _ _ (c .loop-test .left) (c .before .loop .inv .2))
 
 pub put-text-spec : {M : Type 1} → statement M
 put-text-spec =
