@@ -32,14 +32,16 @@ same-length c = search needs
 
 returns-2 : tie.Need-returns-2
 returns-2 c =
-    let c₃ = c .before .before in
-    let c₂ = c₃ .before .before .before .before .before in
-    let c₁ = c₂ .before .before .before .before .before in
-    let entry = c₁ .before .before in
-    let a = entry .before .before .before .args in
-    let parts = then (c₁ .put-field .ensures) (then (put (word "BAD\t") (c₂ .put-text .ensures)) (c₃ .put-field2 .ensures)) in
-    line _ _ _ _ (entry .before .has-room .ensures) (entry .if1 .left) (bad-short (a .number) (a .refusal) (omega arith))
-    (rw (bad-parts (a .number) (a .refusal), ← c₃ .before .refusal-number .ensures) parts)
+    let refusal-put = c .before .before in
+    let refusal-lent = refusal-put .before .before in
+    let word-put = refusal-lent .before .before .before in
+    let word-lent = word-put .before .before in
+    let number-put = word-lent .before .before .before in
+    let roomy = number-put .before .before in
+    let a = roomy .before .before .before .args in
+    let parts = then (number-put .put-field .ensures) (then (put (word "BAD\t") (word-put .put-text .ensures)) (refusal-put .put-field2 .ensures)) in
+    line _ _ _ _ (roomy .before .has-room .ensures) (roomy .if1 .left) (bad-short (a .number) (a .refusal) (omega arith))
+    (rw (bad-parts (a .number) (a .refusal), ← refusal-put .before .refusal-number .ensures) parts)
 
 pub put-bad-spec : {M : Type 1} → statement M
 put-bad-spec =

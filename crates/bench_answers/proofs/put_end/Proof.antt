@@ -32,16 +32,21 @@ same-length c = search needs
 
 returns-2 : tie.Need-returns-2
 returns-2 c =
-    let c₄ = c .before .before in
-    let c₃ = c₄ .before .before .before .before in
-    let c₂ = c₃ .before .before .before .before in
-    let c₁ = c₂ .before .before .before .before in
-    let entry = c₁ .before .before .before in
-    let start = entry .before .before .before in
+    let refused-put = c .before .before in
+    let refused-lent = refused-put .before in
+    let decoded-put = refused-lent .before .before .before in
+    let decoded-lent = decoded-put .before in
+    let lines-put = decoded-lent .before .before .before in
+    let lines-lent = lines-put .before in
+    let word-put = lines-lent .before .before .before in
+    let roomy = word-put .before .before .before in
+    let start = roomy .before .before .before in
     let counts = start .args .counts in
     let held = start .good .1 .1 .0 in
-    let parts = then (put (word "END\t") (c₁ .put-text .ensures)) (then (c₂ .put-field .ensures) (then (c₃ .put-field2 .ensures) (c₄ .put-field3 .ensures))) in
-    line _ _ _ _ (entry .before .has-room .ensures) (entry .if1 .left) (end-short counts (omega arith) (omega arith) (omega arith)) (rw (end-parts counts) parts)
+    let numbers = then (lines-put .put-field .ensures) (then (decoded-put .put-field2 .ensures) (refused-put .put-field3 .ensures)) in
+    let parts = then (put (word "END\t") (word-put .put-text .ensures)) numbers in
+    line _ _ _ _ (roomy .before .has-room .ensures) (roomy .if1 .left)
+    (end-short counts (omega (arith, held)) (omega (arith, held)) (omega (arith, held))) (rw (end-parts counts) parts)
 
 pub put-end-spec : {M : Type 1} → statement M
 put-end-spec =

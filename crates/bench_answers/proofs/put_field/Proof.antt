@@ -19,10 +19,11 @@ same-length c = search needs
 returns : tie.Need-returns
 unfolding fieldText
 returns c =
-    let c₂ = c .before .before in
-    let c₁ = c₂ .before .before .before .before in
-    let a = c₁ .before .before .before .args in
-    then (put (decimalOf (a .number)) (c₁ .put-decimal .ensures)) (put (a .mark ∷ []) (c₂ .put-byte .ensures))
+    let mark-put = c .before .before in
+    let mark-lent = mark-put .before in
+    let number-put = mark-lent .before .before .before in
+    let a = number-put .before .before .before .args in
+    then (put (decimalOf (a .number)) (number-put .put-decimal .ensures)) (put (a .mark ∷ []) (mark-put .put-byte .ensures))
 
 pub put-field-spec : {M : Type 1} → statement M
 put-field-spec = tie.close (tie.spec put-decimal-requires put-byte-requires same-length returns)

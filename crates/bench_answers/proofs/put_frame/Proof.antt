@@ -92,11 +92,13 @@ same-length c = search needs
 returns : tie.Need-returns
 unfolding frameText kindText dataText
 returns c =
-    let c₂ = c .before .before in
-    let c₁ = c₂ .before .before .before .before .before in
-    let x = c₁ .before .before .before .before .frame .given in
+    let data-put = c .before .before in
+    let data-lent = data-put .before .before in
+    let kind-put = data-lent .before .before .before in
+    let known = kind-put .before .before .before in
+    let x = known .before .frame .given in
     let bits = x .0 .0 in
-    rw (x .1) (then (put (word "F16\t") (c₁ .put-text .ensures)) (put (hexesOf (bits / 256 ∷ bits % 256 ∷ [])) (c₂ .put-hex .ensures)))
+    rw (x .1) (then (put (word "F16\t") (kind-put .put-text .ensures)) (put (hexesOf (bits / 256 ∷ bits % 256 ∷ [])) (data-put .put-hex .ensures)))
 
 same-length-2 : tie.Need-same-length-2
 same-length-2 c = search needs
@@ -104,10 +106,12 @@ same-length-2 c = search needs
 returns-2 : tie.Need-returns-2
 unfolding frameText kindText dataText
 returns-2 c =
-    let c₂ = c .before .before in
-    let c₁ = c₂ .before .before .before .before .before in
-    let x = c₁ .before .before .before .before .frame2 .given in
-    rw (x .1) (then (put (word "B8\t") (c₁ .put-text2 .ensures)) (put (hexesOf (x .0 .0 ∷ [])) (c₂ .put-hex2 .ensures)))
+    let data-put = c .before .before in
+    let data-lent = data-put .before .before in
+    let kind-put = data-lent .before .before .before in
+    let known = kind-put .before .before .before in
+    let x = known .before .frame2 .given in
+    rw (x .1) (then (put (word "B8\t") (kind-put .put-text2 .ensures)) (put (hexesOf (x .0 .0 ∷ [])) (data-put .put-hex2 .ensures)))
 
 same-length-3 : tie.Need-same-length-3
 same-length-3 c = search needs
@@ -115,10 +119,13 @@ same-length-3 c = search needs
 returns-3 : tie.Need-returns-3
 unfolding frameText kindText dataText
 returns-3 c =
-    let c₂ = c .before .before in
-    let c₁ = c₂ .before .before .before .before .before in
-    let x = c₁ .before .before .before .before .frame3 .given in
-    rw (x .1) (then (put (word "F24\t") (c₁ .put-text3 .ensures)) (put (hexesOf (x .0 .0 ∷ x .0 .1 .0 ∷ x .0 .1 .1 .0 ∷ [])) (c₂ .put-hex3 .ensures)))
+    let data-put = c .before .before in
+    let data-lent = data-put .before .before in
+    let kind-put = data-lent .before .before .before in
+    let known = kind-put .before .before .before in
+    let x = known .before .frame3 .given in
+    let bytes = x .0 .0 ∷ x .0 .1 .0 ∷ x .0 .1 .1 .0 ∷ [] in
+    rw (x .1) (then (put (word "F24\t") (kind-put .put-text3 .ensures)) (put (hexesOf bytes) (data-put .put-hex3 .ensures)))
 
 same-length-4 : tie.Need-same-length-4
 same-length-4 c = search needs
@@ -126,17 +133,19 @@ same-length-4 c = search needs
 returns-4 : tie.Need-returns-4
 unfolding frameText kindText dataText
 returns-4 c =
-    let c₂ = c .before .before in
-    let c₁ = c₂ .before .before .before .before in
-    let x = c₁ .before .before .before .before .frame4 .given in
-    rw (x .1) (then (put (word "LEN\t") (c₁ .put-text4 .ensures)) (put (decimalOf (x .0 .0)) (c₂ .put-decimal .ensures)))
+    let data-put = c .before .before in
+    let data-lent = data-put .before in
+    let kind-put = data-lent .before .before .before in
+    let known = kind-put .before .before .before in
+    let x = known .before .frame4 .given in
+    rw (x .1) (then (put (word "LEN\t") (kind-put .put-text4 .ensures)) (put (decimalOf (x .0 .0)) (data-put .put-decimal .ensures)))
 
 same-length-5 : tie.Need-same-length-5
 same-length-5 c = search needs
 
 returns-5 : tie.Need-returns-5
 unfolding frameText kindText dataText
-returns-5 c = rw (c .before .before .before .before .before .enum-told .given .1) (put (word "FAIL\t-") (c .before .before .put-text5 .ensures))
+returns-5 c = let both-put = c .before .before in rw (both-put .before .before .before .enum-told .given .1) (put (word "FAIL\t-") (both-put .put-text5 .ensures))
 
 pub put-frame-spec : {M : Type 1} → statement M
 put-frame-spec =
