@@ -26,22 +26,24 @@ same-length c = search needs
 
 returns : tie.Need-returns
 returns c =
-    let row = c .before .before .before .before .before in
+    let tested = c .before .before in
+    let row = tested .before .before .before in
     let put = row .put-row .ensures in
     let read = row .before .before .before in
     capture-line _ _ _ _ _ (read .before .before .pre .1) _ _ _ (read .read-capture .ensures) (put .0) (put .1 .0) (put .1 .1)
-    (c .one-more .ensures ∙ sym (on-true (sym (c .before .before .is-decoded .ensures) ∙ c .before .if1 .taken) _ _))
+    (c .one-more .ensures ∙ sym (on-true (sym (tested .is-decoded .ensures) ∙ c .before .if1 .taken) _ _))
 
 same-length-2 : tie.Need-same-length-2
 same-length-2 c = search needs
 
 returns-2 : tie.Need-returns-2
 returns-2 c =
-    let row = c .before .before .before .before in
+    let tested = c .before in
+    let row = tested .before .before .before in
     let put = row .put-row .ensures in
     let read = row .before .before .before in
     capture-line _ _ _ _ _ (read .before .before .pre .1) _ _ _ (read .read-capture .ensures) (put .0) (put .1 .0) (put .1 .1)
-    (sym (on-false (sym (c .before .is-decoded .ensures) ∙ c .if1 .left) _ _))
+    (sym (on-false (sym (tested .is-decoded .ensures) ∙ c .if1 .left) _ _))
 
 pub answer-capture-spec : {M : Type 1} → statement M
 answer-capture-spec =

@@ -18,8 +18,10 @@ same-length c = search needs
 
 returns : tie.Need-returns
 returns c =
-    let put = c .before .before .before .put-bad .ensures in
-    refused-line _ _ _ _ _ (c .before .before .before .before .before .before .before .pre .1) _ _ (put .0) (put .1 .0) (put .1 .1) (c .one-more .ensures)
+    let line-put = c .before .before .before in
+    let line-lent = line-put .before in
+    let put = line-put .put-bad .ensures in
+    refused-line _ _ _ _ _ (line-lent .before .before .before .pre .1) _ _ (put .0) (put .1 .0) (put .1 .1) (c .one-more .ensures)
 
 pub answer-refused-spec : {M : Type 1} → statement M
 answer-refused-spec = tie.close (tie.spec add-lines put-bad-requires one-more-requires same-length returns)

@@ -27,18 +27,20 @@ same-length c = search needs
 
 returns : tie.Need-returns
 returns c =
-    let told = c .before .before .before .before .before in
+    let answered = c .before .before in
+    let told = answered .before .before .before in
     let read = told .before .before in
-    of-capture _ (read .before .first .ensures) (read .parse-line .ensures .0) _ _ _ _ (told .enum-told .given .1) (c .before .before .answer-capture .ensures)
+    of-capture _ (read .before .first .ensures) (read .parse-line .ensures .0) _ _ _ _ (told .enum-told .given .1) (answered .answer-capture .ensures)
 
 same-length-2 : tie.Need-same-length-2
 same-length-2 c = search needs
 
 returns-2 : tie.Need-returns-2
 returns-2 c =
-    let told = c .before .before .before .before .before in
+    let answered = c .before .before in
+    let told = answered .before .before .before in
     let read = told .before .before in
-    of-refused _ (read .before .first .ensures) (read .parse-line .ensures .0) _ _ _ _ _ (told .answer .given .1) (c .before .before .answer-refused .ensures)
+    of-refused _ (read .before .first .ensures) (read .parse-line .ensures .0) _ _ _ _ _ (told .answer .given .1) (answered .answer-refused .ensures)
 
 pub end-line-spec : {M : Type 1} → statement M
 end-line-spec =

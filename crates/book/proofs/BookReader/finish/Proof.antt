@@ -20,8 +20,9 @@ same-length c = search needs
 
 returns-2 : tie.Need-returns-2
 returns-2 c =
-    let put = c .before .before .put-end .ensures in
-    let full = c .before .before .before .before in
+    let end-put = c .before .before in
+    let put = end-put .put-end .ensures in
+    let full = end-put .before .before in
     when-full _ _ (full .before .before .if1 .left) _ _ (put .0) (put .1 .0) (put .1 .1) (sym (full .before .is-full .ensures) ∙ full .if2 .taken)
 
 put-end-requires-2 : tie.Need-put-end-requires-2
@@ -32,14 +33,17 @@ same-length-2 c = search needs
 
 returns-3 : tie.Need-returns-3
 returns-3 c =
-    let put = c .before .before .put-end2 .ensures in
-    let none = c .before .before .before .before in
-    when-none _ _ (none .before .before .before .before .if1 .left) _ _ (put .0) (put .1 .0) (put .1 .1) (none .if3 .taken)
+    let end-put = c .before .before in
+    let put = end-put .put-end2 .ensures in
+    let none-waits = end-put .before .before in
+    let takes-more = none-waits .before .before in
+    when-none _ _ (takes-more .before .before .if1 .left) _ _ (put .0) (put .1 .0) (put .1 .1) (none-waits .if3 .taken)
 
 end-line-requires : tie.Need-end-line-requires
 end-line-requires c κs =
-    let full = c .before .before .before .before .before in
-    (not-full _ (sym (full .before .is-full .ensures) ∙ full .if2 .left), omega (arith, full .before .before .if1 .left))
+    let line-waits = c .before .before .before in
+    let takes-more = line-waits .before .before in
+    (not-full _ (sym (takes-more .before .is-full .ensures) ∙ takes-more .if2 .left), omega (arith, takes-more .before .before .if1 .left))
 
 put-end-requires-3 : tie.Need-put-end-requires-3
 put-end-requires-3 c κs = search needs
@@ -49,12 +53,15 @@ same-length-3 c = search needs
 
 returns-4 : tie.Need-returns-4
 returns-4 c =
-    let put = c .before .before .put-end3 .ensures in
-    let line = c .before .before .before .before .before .before in
-    let some = line .before .before .before .before in
-    let full = some .before .before in
-    when-some _ _ (full .before .before .if1 .left) _ _ (sym (full .before .is-full .ensures) ∙ full .if2 .left) (some .if3 .left) _ _ (line .end-line .ensures)
-    (put .0) (put .1 .0) (put .1 .1)
+    let end-put = c .before .before in
+    let put = end-put .put-end3 .ensures in
+    let end-lent = end-put .before in
+    let line-ended = end-lent .before .before .before in
+    let line-lent = line-ended .before in
+    let line-waits = line-lent .before .before .before in
+    let takes-more = line-waits .before .before in
+    when-some _ _ (takes-more .before .before .if1 .left) _ _ (sym (takes-more .before .is-full .ensures) ∙ takes-more .if2 .left)
+    (line-waits .if3 .left) _ _ (line-ended .end-line .ensures) (put .0) (put .1 .0) (put .1 .1)
 
 pub finish-spec : {M : Type 1} → statement M
 finish-spec =
