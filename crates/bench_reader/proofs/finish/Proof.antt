@@ -9,6 +9,10 @@ use borrow.Author.Needs.{needs}
 use Rattle.bench_reader.proofs.finish.Statement.{statement}
 use Rattle.bench_reader.proofs.finish.Tie as tie
 
+-- what was written, from where the write was tried
+abbrev text-of : tie.After-write-text → tie.After-bytes-in
+text-of wrote = let text-lent = wrote .before in text-lent .before .before .before
+
 finish-requires : tie.Need-finish-requires
 finish-requires c κs = search needs
 
@@ -29,16 +33,18 @@ say-not-written-requires c κs = search needs
 
 returns : tie.Need-returns
 returns c =
-    let text = c .before .before .before .before .before .before in
+    let wrote = c .before .before in
+    let text = text-of wrote in
     let end = text .before .finish .ensures in
-    let went = c .before .before .write-text .ensures in
+    let went = wrote .write-text .ensures in
     said-last _ _ (omega arith) (end .0) (end .1 .0) (end .1 .1) (text .bytes-in .ensures) went (λ _. c .say-not-written .ensures)
 
 returns-2 : tie.Need-returns-2
 returns-2 c =
-    let text = c .before .before .before .before .before in
+    let wrote = c .before in
+    let text = text-of wrote in
     let end = text .before .finish .ensures in
-    let went = c .before .write-text .ensures in
+    let went = wrote .write-text .ensures in
     said-last _ _ (omega arith) (end .0) (end .1 .0) (end .1 .1) (text .bytes-in .ensures) went (λ no. absurd (false≢true (sym no ∙ not-false _ (c .if1 .left))))
 
 pub finish-spec : {M : Type 1} → statement M

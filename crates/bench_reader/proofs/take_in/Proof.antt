@@ -9,6 +9,17 @@ use borrow.Author.Needs.{needs}
 use Rattle.bench_reader.proofs.take_in.Statement.{statement}
 use Rattle.bench_reader.proofs.take_in.Tie as tie
 
+-- the points before the write: the text is made, the chunk is fed, the start
+module _ (wrote : tie.After-write-text) where
+  abbrev text : tie.After-bytes-in
+  text = let text-lent = wrote .before in text-lent .before .before .before
+
+  abbrev feed : tie.After-feed
+  feed = text .before .before
+
+  abbrev start : tie.Start
+  start = let chunk-lent = feed .before in chunk-lent .before .before .before
+
 add-made : tie.Need-add-made
 add-made c = search needs
 
@@ -39,12 +50,10 @@ say-not-written-requires c κs = search needs
 returns : tie.Need-returns
 returns c =
     let wrote = c .before .before in
-    let text = wrote .before .before .before .before in
-    let feed = text .before .before in
-    let start = feed .before .before .before .before in
-    let pre = start .pre in
-    let fed = feed .feed .ensures in
-    (refl, breaks-off _ _ (pre .1 .0) (pre .1 .1 .1) _ (omega arith) (fed .0) (fed .1 .0) (fed .1 .1) (text .bytes-in .ensures) (wrote .write-text .ensures) (not-true _ (c .before .if1 .taken)) (c .say-not-written .ensures))
+    let pre = start wrote .pre in
+    let fed = feed wrote .feed .ensures in
+    (refl, breaks-off _ _ (pre .1 .0) (pre .1 .1 .1) _ (omega arith) (fed .0) (fed .1 .0) (fed .1 .1) (text wrote .bytes-in .ensures)
+    (wrote .write-text .ensures) (not-true _ (c .before .if1 .taken)) (c .say-not-written .ensures))
 
 is-over-requires : tie.Need-is-over-requires
 is-over-requires c κs = search needs
@@ -52,22 +61,18 @@ is-over-requires c κs = search needs
 returns-2 : tie.Need-returns-2
 returns-2 c =
     let wrote = c .before .before .before in
-    let text = wrote .before .before .before .before in
-    let feed = text .before .before in
-    let start = feed .before .before .before .before in
-    let pre = start .pre in
-    let fed = feed .feed .ensures in
-    (refl, is-over _ _ (pre .1 .0) (pre .1 .1 .1) _ (omega arith) (fed .0) (fed .1 .0) (fed .1 .1) (text .bytes-in .ensures) (wrote .write-text .ensures) (not-false _ (c .before .before .if1 .left)) (sym (c .before .is-over .ensures) ∙ c .if2 .taken))
+    let pre = start wrote .pre in
+    let fed = feed wrote .feed .ensures in
+    (refl, is-over _ _ (pre .1 .0) (pre .1 .1 .1) _ (omega arith) (fed .0) (fed .1 .0) (fed .1 .1) (text wrote .bytes-in .ensures)
+    (wrote .write-text .ensures) (not-false _ (c .before .before .if1 .left)) (sym (c .before .is-over .ensures) ∙ c .if2 .taken))
 
 returns-3 : tie.Need-returns-3
 returns-3 c =
     let wrote = c .before .before .before in
-    let text = wrote .before .before .before .before in
-    let feed = text .before .before in
-    let start = feed .before .before .before .before in
-    let pre = start .pre in
-    let fed = feed .feed .ensures in
-    (refl, goes-on _ _ (pre .1 .0) (pre .1 .1 .1) _ (omega arith) (fed .0) (fed .1 .0) (fed .1 .1) (text .bytes-in .ensures) (wrote .write-text .ensures) (not-false _ (c .before .before .if1 .left)) (sym (c .before .is-over .ensures) ∙ c .if2 .left))
+    let pre = start wrote .pre in
+    let fed = feed wrote .feed .ensures in
+    (refl, goes-on _ _ (pre .1 .0) (pre .1 .1 .1) _ (omega arith) (fed .0) (fed .1 .0) (fed .1 .1) (text wrote .bytes-in .ensures)
+    (wrote .write-text .ensures) (not-false _ (c .before .before .if1 .left)) (sym (c .before .is-over .ensures) ∙ c .if2 .left))
 
 pub take-in-spec : {M : Type 1} → statement M
 take-in-spec =

@@ -16,10 +16,11 @@ enum-known-report c = search needs
 
 take-in-requires : tie.Need-take-in-requires
 take-in-requires c κs =
-    let start = c .before .before .before .before .before .before .before in
-    let read = c .before .before .before .before .before .read-chunk .ensures in
-    let told = c .before .before .before .report .given .1 in
-    (start .pre .0, (start .pre .1, (rw told at (read .0), rw told at (read .1))))
+    let bytes-came = c .before .before .before in
+    let read = bytes-came .before .before in
+    let start = read .before .before in
+    let told = bytes-came .report .given .1 in
+    (start .pre .0, (start .pre .1, (rw told at (read .read-chunk .ensures .0), rw told at (read .read-chunk .ensures .1))))
 
 enum-told : tie.Need-enum-told
 enum-told c = search needs
@@ -38,12 +39,14 @@ returns c = search needs
 
 returns-2 : tie.Need-returns-2
 returns-2 c =
-    (refl, ends _ (c .before .before .before .before .pre .1) (c .before .before .read-chunk .ensures .1) (c .enum-told .given .1))
+    let read = c .before .before in
+    (refl, ends _ (read .before .before .pre .1) (read .read-chunk .ensures .1) (c .enum-told .given .1))
 
 returns-3 : tie.Need-returns-3
 returns-3 c =
-    let read = c .before .before .before .before in
-    (refl, fails _ (read .before .before .pre .1) (read .read-chunk .ensures .1) (c .before .before .enum-told2 .given .1) (c .complain .ensures))
+    let failed = c .before .before in
+    let read = failed .before .before in
+    (refl, fails _ (read .before .before .pre .1) (read .read-chunk .ensures .1) (failed .enum-told2 .given .1) (c .complain .ensures))
 
 pub turn-spec : {M : Type 1} → statement M
 turn-spec =
