@@ -33,14 +33,14 @@ module _ (c : tie.After-is) where
 fields : (c : tie.Else3) → hasFields (text (c .before)) ≡ true
 fields c = compared (c .before) ∙ not-false _ (c .if3 .left)
 
--- the silence is a number
+-- the silence is a number, read where there are four fields
 abbrev before-silence : tie.After-known-told → tie.Else3
 before-silence c = let read = c .before .before .before in read .before .before
 
 silence : (c : tie.After-known-told) → Number silenceMax (silenceField (text (before-silence c .before))) (c .before .silence .given .0 .0)
 silence c = let read = c .before .before .before in a-number silenceMax (read .before .field2 .ensures) (read .read-byte .ensures) (c .before .silence .given .1)
 
--- and so is the count
+-- and so is the count, read where the silence is known
 abbrev before-count : tie.After-known-told2 → tie.After-known-told
 before-count c = let read = c .before .before .before in read .before .before
 
