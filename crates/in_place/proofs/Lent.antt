@@ -26,7 +26,8 @@ use denote.Triple.Entry.{onEntry}
 use denote.Triple.Spec.{Meets}
 use denote.Triple.Walked.{Stays, stay-ref, stay-none, onExit, walkOf, goes-none, goes-ref, ends-at, walked, walk-meets}
 use denote.Exit.{yes}
-use Rattle.walk.proofs.Walk.{Data, Loan}
+use Rattle.walk.proofs.Data.{Data}
+use Rattle.walk.proofs.Loans.{Loan}
 
 -- two facts that hold
 pub two : {M : Type 1} (𝓤 : URA M) (φ ψ : Type 0) → φ → ψ → ent 𝓤 (emp 𝓤) (sep 𝓤 (fact 𝓤 φ) (fact 𝓤 ψ))

@@ -13,8 +13,7 @@ use contract.Monad.{Fun, conj, fact}
 use denote.Ref.{now}
 use denote.Triple.Clauses.{AtExit}
 use denote.Triple.Entry.{Args}
-use Rattle.laws.proofs.Only.{alike}
-use Rattle.walk.proofs.Walk.{told-twice}
+use Rattle.walk.proofs.Facts.{told-twice}
 use Rattle.in_place.proofs.tick as lent
 
 module _ {M : Type 1} (𝓤 : URA M) (H : Heap 𝓤) (A : Atoms 𝓤) (at-mem : Memory → SProp 𝓤) (run : Routine → Fun 𝓤) (κs : Lfts 1) (a : Args lent.signature κs) where
@@ -22,4 +21,4 @@ module _ {M : Type 1} (𝓤 : URA M) (H : Heap 𝓤) (A : Atoms 𝓤) (at-mem : 
   Promised r x = lent.clauses 𝓤 H A at-mem run κs a .ensures tt r x
 
   pub tick-sole : (r s : Bool) (x y : AtExit lent.ended κs) → ent 𝓤 (conj 𝓤 (Promised r x) (Promised s y)) (fact 𝓤 ((r ≡ s) × (now (x .0) ≡ now (y .0))))
-  tick-sole r s x y = told-twice 𝓤 _ _ _ _ _ (λ p q p′ q′. (alike q q′, alike p p′))
+  tick-sole r s x y = told-twice 𝓤

@@ -30,7 +30,12 @@ use Rattle.fsm.specs.Ticking.{ticked}
 use Rattle.fsm.proofs.DaliBitbangPhy as phy
 use Rattle.fsm.proofs.DaliBitbangPhy.tick.Symbol.{name as #by-value}
 use Rattle.fsm.proofs.DaliBitbangPhy.tick.Met as by-value-met
-use Rattle.walk.proofs.Walk.{Data, Good, Answers, Computes, cites, Held, nothing-more, put, blocks, alloc-all, At, held, part, end, also, copies, asks, behind, stores, truth, One, Loan, opens-loan, closes-loan, leaves, value}
+use Rattle.walk.proofs.Data.{Data, Good, truth}
+use Rattle.walk.proofs.Locals.{Held, nothing-more, put, blocks, alloc-all, value}
+use Rattle.walk.proofs.Answers.{Answers, Computes, cites}
+use Rattle.walk.proofs.Walk.{At, held, part, end, also, copies, asks, leaves}
+use Rattle.walk.proofs.Behind.{behind, stores}
+use Rattle.walk.proofs.Loans.{One, Loan, opens-loan, closes-loan}
 use Rattle.in_place.proofs.Lent.{two, meets as lent-meets}
 use Rattle.copied_tick.proofs.Values.{Station, Answer, station-in}
 use Rattle.copied_tick.proofs.tick as lent

@@ -39,7 +39,12 @@ use Rattle.fsm.specs.Ticking.{ticked}
 use Rattle.fsm.specs.declared.DaliBitbangPhy.{DaliBitbangPhy}
 use Rattle.fsm.proofs.DaliBitbangPhy as phy
 use Rattle.fsm.proofs.Ticked as answer
-use Rattle.walk.proofs.Walk.{Data, Good, Held, nothing-more, put, blocks, alloc-all, At, held, end, also, copies, truth, cell, leaves, Gives, lending, refers, builds, asks-lending, joins, last, value, both}
+use Rattle.walk.proofs.Data.{Data, Good, truth}
+use Rattle.walk.proofs.Locals.{Held, nothing-more, put, blocks, alloc-all, value}
+use Rattle.walk.proofs.Walk.{At, held, end, also, copies, leaves, joins, last}
+use Rattle.walk.proofs.Loans.{cell}
+use Rattle.walk.proofs.Lending.{Gives, lending, refers, builds, asks-lending}
+use Rattle.walk.proofs.Facts.{both}
 use Rattle.copied_tick.proofs.Values.{Station, Answer, answer-of}
 use Rattle.in_place.proofs.tick.Symbol as in-place-code
 use Rattle.in_place.proofs.tick.Symbol.{name as #in-place}

@@ -32,7 +32,12 @@ use denote.Struct.Declared as declared
 use denote.Struct.Laws.{spells, owes, owed}
 use denote.Triple.Spec.{Meets, tripleOf}
 use denote.Triple.Table.{entered}
-use Rattle.walk.proofs.Walk.{Data, Good, Computes, cites, struct, truth, Held, nothing-more, put, blocks, typeOf, inside, alloc-all, At, Gets, held, part, tag, literal, end, also, copies, tests, asks, ifs, chooses, behind, stores, field-behind, stores-within, stores-field, stores-field-last, Loan, Opened, opens-loan, closes-loan, leaves-within, value}
+use Rattle.walk.proofs.Data.{Data, Good, struct, truth}
+use Rattle.walk.proofs.Locals.{Held, nothing-more, put, blocks, typeOf, alloc-all, value}
+use Rattle.walk.proofs.Answers.{Computes, cites}
+use Rattle.walk.proofs.Walk.{inside, At, Gets, held, part, tag, literal, end, also, copies, tests, asks, ifs, chooses, leaves-within}
+use Rattle.walk.proofs.Behind.{behind, stores, field-behind, stores-within, stores-field, stores-field-last}
+use Rattle.walk.proofs.Loans.{Loan, Opened, opens-loan, closes-loan}
 use Rattle.capture.specs.declared.Samples.{Samples}
 use Rattle.capture.specs.Samples.{withByte}
 use Rattle.capture.proofs.Samples as samples
