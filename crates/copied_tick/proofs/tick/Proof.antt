@@ -37,7 +37,8 @@ use Rattle.walk.proofs.Walk.{At, held, part, end, also, copies, asks, leaves}
 use Rattle.walk.proofs.Behind.{behind, stores}
 use Rattle.walk.proofs.Loans.{One, Loan, opens-loan, closes-loan}
 use Rattle.in_place.proofs.Lent.{two, meets as lent-meets}
-use Rattle.copied_tick.proofs.Values.{Station, Answer, station-in}
+use Rattle.in_place.proofs.Values.{Station}
+use Rattle.copied_tick.proofs.Values.{Answer, station-in}
 use Rattle.copied_tick.proofs.tick as lent
 use Rattle.copied_tick.proofs.tick.Key.{name as #lent}
 use Rattle.copied_tick.proofs.tick.Statement.{statement}

@@ -45,7 +45,8 @@ use Rattle.walk.proofs.Walk.{At, held, end, also, copies, leaves, joins, last}
 use Rattle.walk.proofs.Loans.{cell}
 use Rattle.walk.proofs.Lending.{Gives, lending, refers, builds, asks-lending}
 use Rattle.walk.proofs.Facts.{both}
-use Rattle.copied_tick.proofs.Values.{Station, Answer, answer-of}
+use Rattle.in_place.proofs.Values.{Station}
+use Rattle.copied_tick.proofs.Values.{Answer, answer-of}
 use Rattle.in_place.proofs.tick.Symbol as in-place-code
 use Rattle.in_place.proofs.tick.Symbol.{name as #in-place}
 use Rattle.in_place.proofs.tick.Met as in-place-met
