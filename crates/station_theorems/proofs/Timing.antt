@@ -24,11 +24,12 @@ use Rattle.fsm.specs.Station.{withCore}
 use Rattle.fsm.specs.Ticking.{tickOf}
 use Rattle.fsm.specs.Starting.{loadedWith}
 use Rattle.machine.specs.States.{hears}
-use Rattle.station_theorems.specs.Calls.{Call, tick, start-tx, start-answer, poll, take-idle, take-rx, acknowledge, policy, after, afterAll, Reached}
+use Rattle.station_theorems.specs.Calls.{Call, after, afterAll, Reached}
 use Rattle.station_theorems.specs.Ticks.{drives, IsSending, IsBreaking, StaysSending, levelIn, levelsIn, ticksIn}
 use Rattle.station_theorems.specs.OverTicks.{begun, toSend, halfBitLevel, IsClash, OnTime, Starts, a-frame, an-answer, SendsOnTime}
 use Rattle.station_theorems.proofs.Stations.{fits}
-use Rattle.station_theorems.proofs.Between.{Same, isTick, busy-same}
+use Rattle.station_theorems.proofs.Between.{Same, busy-same}
+use Rattle.station_theorems.proofs.Walking.{by-call}
 use Rattle.station_theorems.proofs.Clashes.{Told, clash-told, told-clash, is-high, breaking-clash}
 use Rattle.station_theorems.proofs.Arming.{quiet, idle-hears, tx-taken, answer-taken}
 use Rattle.station_theorems.proofs.ByState.{tick-by, sending-not-breaking, idle-not-sending, idle-not-breaking}
@@ -262,24 +263,16 @@ still [] t h = h
 still (c ∷ cs) t h = h .0
 
 module _ (hb : HalfBitBuffer) (short : hb .length ≤ 54) where
-  another : (c : Call) (m : ℕ) (t : DaliBitbangPhy) → isTick c ≡ false → Timed hb m t → Timed hb m (after c t)
-  unfolding hears
-  another c m t other h = timed-kept hb m t (after c t) (busy-same c t other (ap hears (h .sending))) h
-
   timed : (cs : List Call) (m : ℕ) (t : DaliBitbangPhy) → Timed hb m t → StaysSending cs t → Timed hb (m + ticksIn cs) (afterAll cs t)
-  unfolding levelsIn levelIn afterAll after StaysSending isTick
+  unfolding levelsIn levelIn afterAll after StaysSending hears
   timed [] m t h on = rw (add-zero m) h
-  timed (tick b ∷ cs) m t h on =
+  timed (c ∷ cs) m t h on =
+      by-call (λ c. StaysSending (c ∷ cs) t → Timed hb (m + ticksIn (c ∷ cs)) (afterAll (c ∷ cs) t))
+      (λ b on.
       let next : Timed hb (suc m) (tickOf t b) = timed-on hb short m t h b (still cs (tickOf t b) (on .1)) in
       let all : Timed hb (suc m + ticksIn cs) (afterAll cs (tickOf t b)) = timed cs (suc m) (tickOf t b) next (on .1) in
-      subst (λ (k : ℕ). Timed hb k (afterAll cs (tickOf t b))) (omega arith) all
-  timed (start-tx given ∷ cs) m t h on = timed cs m (after (start-tx given) t) (another (start-tx given) m t refl h) (on .1)
-  timed (start-answer given ∷ cs) m t h on = timed cs m (after (start-answer given) t) (another (start-answer given) m t refl h) (on .1)
-  timed (poll ∷ cs) m t h on = timed cs m (after poll t) (another poll m t refl h) (on .1)
-  timed (take-idle ∷ cs) m t h on = timed cs m (after take-idle t) (another take-idle m t refl h) (on .1)
-  timed (take-rx ∷ cs) m t h on = timed cs m (after take-rx t) (another take-rx m t refl h) (on .1)
-  timed (acknowledge ∷ cs) m t h on = timed cs m (after acknowledge t) (another acknowledge m t refl h) (on .1)
-  timed (policy p ∷ cs) m t h on = timed cs m (after (policy p) t) (another (policy p) m t refl h) (on .1)
+      subst (λ (k : ℕ). Timed hb k (afterAll cs (tickOf t b))) (omega arith) all)
+      (λ c other none. rw none (λ on. timed cs m (after c t) (timed-kept hb m t (after c t) (busy-same c t other (ap hears (h .sending))) h) (on .1))) c on
 
   on-time : (cs : List Call) (t : DaliBitbangPhy) → Timed hb 0 t → StaysSending cs t → OnTime hb (ticksIn cs) (afterAll cs t)
   on-time cs t h on =

@@ -33,6 +33,18 @@ unfolding All
 all-same zero b = tt
 all-same (suc n) b = (refl, all-same n b)
 
+-- ---- a call is a tick, or samples no level
+pub by-call : (P : Call → Type 0) → ((b : Bool) → P (tick b)) → ((c : Call) → isTick c ≡ false → levelIn c ≡ [] → P c) → (c : Call) → P c
+unfolding isTick levelIn
+by-call P ticks others (tick b) = ticks b
+by-call P ticks others (start-tx hb) = others (start-tx hb) refl refl
+by-call P ticks others (start-answer hb) = others (start-answer hb) refl refl
+by-call P ticks others poll = others poll refl refl
+by-call P ticks others take-idle = others take-idle refl refl
+by-call P ticks others take-rx = others take-rx refl refl
+by-call P ticks others acknowledge = others acknowledge refl refl
+by-call P ticks others (policy p) = others (policy p) refl refl
+
 -- ---- the walk
 -- `P n` is kept by every other call, and a tick that samples a level that is `ok` leads from `P n` to the next, up to `end`.
 module _ (P : ℕ → DaliBitbangPhy → Type 0) (ok : Bool → Type 0) (end : ℕ)
@@ -40,15 +52,11 @@ module _ (P : ℕ → DaliBitbangPhy → Type 0) (ok : Bool → Type 0) (end : �
     (kept : (n : ℕ) (s t : DaliBitbangPhy) → Same s t → P n s → P n t)
     (ticks : (n : ℕ) (s : DaliBitbangPhy) (b : Bool) → ok b → n < end → P n s → P (suc n) (tickOf s b)) where
   pub walk : (cs : List Call) (n : ℕ) (s : DaliBitbangPhy) → All ok (levelsIn cs) → P n s → n + ticksIn cs ≤ end → P (n + ticksIn cs) (afterAll cs s)
-  unfolding levelsIn levelIn afterAll after All isTick
+  unfolding levelsIn levelIn afterAll after All
   walk [] n s a h le = rw (add-zero n) h
-  walk (tick b ∷ cs) n s a h le =
+  walk (c ∷ cs) n s a h le =
+      by-call (λ c. All ok (levelsIn (c ∷ cs)) → P n s → n + ticksIn (c ∷ cs) ≤ end → P (n + ticksIn (c ∷ cs)) (afterAll (c ∷ cs) s))
+      (λ b a h le.
       let next : P (suc n) (tickOf s b) = ticks n s b (a .0) (omega arith) h in
-      rw (add-suc n (ticksIn cs), ← suc-add n (ticksIn cs)) (walk cs (suc n) (tickOf s b) (a .1) next (omega arith))
-  walk (start-tx hb ∷ cs) n s a h le = walk cs n (after (start-tx hb) s) a (kept n s _ (busy-same (start-tx hb) s refl (deaf n s h)) h) le
-  walk (start-answer hb ∷ cs) n s a h le = walk cs n (after (start-answer hb) s) a (kept n s _ (busy-same (start-answer hb) s refl (deaf n s h)) h) le
-  walk (poll ∷ cs) n s a h le = walk cs n (after poll s) a (kept n s _ (busy-same poll s refl (deaf n s h)) h) le
-  walk (take-idle ∷ cs) n s a h le = walk cs n (after take-idle s) a (kept n s _ (busy-same take-idle s refl (deaf n s h)) h) le
-  walk (take-rx ∷ cs) n s a h le = walk cs n (after take-rx s) a (kept n s _ (busy-same take-rx s refl (deaf n s h)) h) le
-  walk (acknowledge ∷ cs) n s a h le = walk cs n (after acknowledge s) a (kept n s _ (busy-same acknowledge s refl (deaf n s h)) h) le
-  walk (policy p ∷ cs) n s a h le = walk cs n (after (policy p) s) a (kept n s _ (busy-same (policy p) s refl (deaf n s h)) h) le
+      rw (add-suc n (ticksIn cs), ← suc-add n (ticksIn cs)) (walk cs (suc n) (tickOf s b) (a .1) next (omega arith)))
+      (λ c other none. rw none (λ a h le. walk cs n (after c s) a (kept n s _ (busy-same c s other (deaf n s h)) h) le)) c a h le
