@@ -4,13 +4,12 @@ use native.Mathlib.Omega.{arith}
 use native.Mathlib.Nat.{zero-add}
 use mathlib.Core.Bool.{Bool, true, false, false≢true, not}
 use mathlib.Core.List.{List}
-use mathlib.Core.Path.{_≡_, refl, sym, _∙_, ap, subst}
+use mathlib.Core.Path.{_≡_, refl, sym, _∙_, ap}
 use lib.Dec.{eqb, ltb}
 use borrow.Author.Tests.{lt-ltb, le-ltb, le-leb, lt-leb, eqb-true, eq-eqb}
 use Rattle.laws.specs.Pick.{pick}
 use Rattle.laws.proofs.Picked.{on-true, on-false}
 use Rattle.halfbits.specs.declared.HalfBitBuffer.{HalfBitBuffer}
-use Rattle.machine.specs.declared.BusState.{BusState}
 use Rattle.machine.specs.declared.BusState.the-variants as bus
 use Rattle.machine.specs.declared.Core.{Core}
 use Rattle.machine.specs.Fields.{withDrivenHigh, withTxCollision, withTxSpCnt}
@@ -32,7 +31,7 @@ use Rattle.fsm.specs.Calls.{tookIdle}
 use Rattle.station_theorems.specs.Calls.{Call, after, afterAll, Reached, called, tick}
 use Rattle.station_theorems.specs.Ticks.{drives, IsSending, IsBreaking, levelsIn, ticksIn}
 use Rattle.station_theorems.specs.OverTicks.{InBreak, Broke, BreakTicks}
-use Rattle.station_theorems.proofs.Cores.{In}
+use Rattle.station_theorems.proofs.Cores.{In, InOf, in-state}
 use Rattle.station_theorems.proofs.Stations.{reached-whole}
 use Rattle.station_theorems.proofs.Between.{Same, tx-refused, answer-refused}
 use Rattle.station_theorems.proofs.Walking.{reached-all, all-any, walk}
@@ -139,7 +138,7 @@ calm : (t : DaliBitbangPhy) → Reached t → IsBreaking t → t .core .told .«
 unfolding In
 calm t r e =
     let c : Core = t .core in
-    let i : In bus.CollisionTx (c .runs) (c .bus) (c .rx) (c .told) = subst (λ (b : BusState). In b (c .runs) (c .bus) (c .rx) (c .told)) e (reached-whole t r .core .state) in
+    let i : InOf bus.CollisionTx c = in-state c (reached-whole t r .core) e in
     i .unyielded
 
 -- ---- any calls from the clash on

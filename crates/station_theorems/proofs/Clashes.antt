@@ -1,9 +1,9 @@
 -- Which ticks are a clash (specs/OverTicks, Tx). Assumes nothing.
-use Prim.Native.Nat.{ℕ, _+_, _/_, _%_, _≤_, _<_, min}
+use Prim.Native.Nat.{ℕ, _+_, _%_, _≤_, _<_, min}
 use native.Mathlib.Omega.{arith}
 use native.Mathlib.Nat.{not-suc-le-zero}
 use mathlib.Core.Bool.{Bool, true, false, not, false≢true, _&&_, _||_}
-use mathlib.Core.Path.{_≡_, refl, sym, _∙_, ap, subst}
+use mathlib.Core.Path.{_≡_, refl, sym, _∙_, ap}
 use lib.Dec.{eqb, ltb, leb}
 use borrow.Author.Tests.{eqb-true, eqb-false, eq-eqb, ne-eqb}
 use Rattle.laws.specs.Bit.{bit}
@@ -37,7 +37,7 @@ use Rattle.fsm.specs.Polling.{polled}
 use Rattle.station_theorems.specs.Calls.{Call, tick, start-tx, start-answer, poll, take-idle, take-rx, acknowledge, policy, after, isBetween, Reached, new, called}
 use Rattle.station_theorems.specs.Ticks.{drives, IsSending, IsBreaking}
 use Rattle.station_theorems.specs.OverTicks.{toSend, Watches, ClashSeen}
-use Rattle.station_theorems.proofs.Cores.{In}
+use Rattle.station_theorems.proofs.Cores.{In, InOf, in-state}
 use Rattle.station_theorems.proofs.Stations.{reached-whole}
 use Rattle.station_theorems.proofs.Between.{Same, between-same}
 use Rattle.station_theorems.proofs.ByState.{tick-idle, tick-rx, tick-tx, tick-by, tick-break, sending-not-breaking, idle-not-breaking, idle-not-sending}
@@ -232,8 +232,7 @@ clash-seen s r sending level breaking =
     let e : tickOf s level ≡ withCore s (afterStep x c) = tick-tx s level sending in
     let is : isClash x ≡ true = stepped-clash x c sending (sym (ap (λ (t : DaliBitbangPhy). t .core .bus .«bus_state») e) ∙ breaking) in
     let t : Told (s .core .tx) (s .core .«collision_policy») (toSend s) level = clash-told _ _ _ _ (breaking-clash s level sending breaking) in
-    let i : In bus.Tx (s .core .runs) (s .core .bus) (s .core .rx) (s .core .told)
-    = subst (λ (b : BusState). In b (s .core .runs) (s .core .bus) (s .core .rx) (s .core .told)) sending (reached-whole s r .core .state) in
+    let i : InOf bus.Tx (s .core) = in-state (s .core) (reached-whole s r .core) sending in
     let on : drives s ≡ true = is-high (drives s) _ (steady s r sending (t .left)) (t .released) in
     let told = clashed-told x s c is (i .unyielded) (i .clear) in
     record { fell = t .fell; released = (on, ap (λ (u : DaliBitbangPhy). drives u) e ∙ told .1 ∙ on); watched = t .watches; told = rw e (told .0) }

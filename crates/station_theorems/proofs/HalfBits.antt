@@ -1,19 +1,18 @@
 -- The ticks of a half-bit (specs/OverTicks, Tx). Assumes nothing.
-use Prim.Native.Nat.{ℕ, suc, _+_, _/_, _%_, _≤_, _<_}
+use Prim.Native.Nat.{ℕ, suc, _+_, _%_, _≤_, _<_}
 use native.Mathlib.Omega.{arith}
 use native.Mathlib.Decide.{decLt}
-use native.Mathlib.Nat.{not-suc-le-zero, zero-add}
+use native.Mathlib.Nat.{zero-add}
 use mathlib.Core.Bool.{Bool, true, false, false≢true, not, _&&_}
 use mathlib.Core.List.{List}
 use mathlib.Core.Logic.{_⊎_, inl, inr, ⊎-elim}
-use mathlib.Core.Path.{_≡_, refl, sym, _∙_, ap, subst}
+use mathlib.Core.Path.{_≡_, refl, sym, _∙_, ap}
 use lib.Dec.{eqb, leb}
-use borrow.Author.Tests.{eqb-true, eq-eqb, ne-eqb, leb-true, leb-false, le-leb, lt-leb}
+use borrow.Author.Tests.{eqb-true, eq-eqb, ne-eqb, leb-false, lt-leb}
 use Rattle.laws.specs.Bit.{bit}
 use Rattle.laws.specs.Pick.{pick}
 use Rattle.laws.proofs.Picked.{on-true, on-false, cases}
 use Rattle.laws.proofs.Joined.{is}
-use Rattle.machine.specs.declared.BusState.{BusState}
 use Rattle.machine.specs.declared.BusState.the-variants as bus
 use Rattle.machine.specs.declared.CollisionPolicy.{CollisionPolicy}
 use Rattle.machine.specs.declared.Tx.{Tx}
@@ -24,21 +23,18 @@ use Rattle.machine.specs.BecomingIdle.{idled}
 use Rattle.machine.specs.Idle.{idleTick, silent, fell}
 use Rattle.machine.specs.Sending.{Step, Arm, Yield, End, Clash, Hold, Drive, clashOf, releasesAt, txStep, armed, yielded, clashed, held, driven, afterStep, txTick}
 use Rattle.fsm.specs.declared.DaliBitbangPhy.{DaliBitbangPhy}
-use Rattle.fsm.specs.declared.TxPollResult.the-variants.{Ok, Yielded}
 use Rattle.fsm.specs.Station.{withCore}
-use Rattle.fsm.specs.Ticking.{tickIn, tickOf}
-use Rattle.machine.specs.States.{hears, isTx}
-use Rattle.fsm.specs.Polling.{polled}
+use Rattle.fsm.specs.Ticking.{tickOf}
+use Rattle.machine.specs.States.{hears}
 use Rattle.station_theorems.specs.Calls.{Call, tick, after, afterAll, called}
-use Rattle.station_theorems.specs.Ticks.{drives, IsIdle, IsSending, IsBreaking, levelsIn, ticksIn}
-use Rattle.station_theorems.specs.OverTicks.{begun, toSend, Begins, HalfBitsDriven, IsClash, HalfBitTicks, NoLow, LastHalfBit, SentWhole}
-use Rattle.station_theorems.proofs.Cores.{In}
+use Rattle.station_theorems.specs.Ticks.{drives, IsSending, IsBreaking, levelsIn, ticksIn}
+use Rattle.station_theorems.specs.OverTicks.{begun, toSend, Begins, HalfBitsDriven, IsClash, HalfBitTicks}
 use Rattle.station_theorems.proofs.Stations.{reached-whole}
 use Rattle.station_theorems.proofs.Between.{Same}
-use Rattle.station_theorems.proofs.Walking.{reached-all, all-any, walk}
+use Rattle.station_theorems.proofs.Walking.{all-any, walk}
 use Rattle.station_theorems.proofs.Clashes.{Told, clash-told, told-clash, is-high}
 use Rattle.station_theorems.proofs.Breaking.{tick-on}
-use Rattle.station_theorems.proofs.ByState.{tick-tx, tick-by, sending-not-breaking, idle-not-breaking, idle-not-sending}
+use Rattle.station_theorems.proofs.ByState.{tick-tx, tick-by, sending-not-breaking}
 
 -- ---- the tick that begins a half-bit
 isDrive : Step → Bool
@@ -113,7 +109,7 @@ pub record InHalf (first : DaliBitbangPhy) (n : ℕ) (t : DaliBitbangPhy) : Type
   pub count : begun t ≡ begun first
   pub store : t .«tx_hb» ≡ first .«tx_hb»
 
-half-begins : (s : DaliBitbangPhy) (level : Bool) → Begins s level → InHalf (tickOf s level) 0 (tickOf s level)
+pub half-begins : (s : DaliBitbangPhy) (level : Bool) → Begins s level → InHalf (tickOf s level) 0 (tickOf s level)
 unfolding driven runsCounted
 half-begins s level b =
     rw (begin-tick s level b) (record { sending = b .sending; unarmed = is-drive s level b .unarmed; left = refl; watch = refl; level = refl; count = refl; store = refl })
@@ -209,11 +205,11 @@ broken-on n t b few h =
     let p : t .core .tx .«tx_sp_cnt» ≤ n = h .passed in
     rw (tick-on _ t (h .breaking) refl b (omega arith)) (record { breaking = h .breaking; passed = omega arith })
 
-deaf-half : (first : DaliBitbangPhy) (n : ℕ) (t : DaliBitbangPhy) → InHalf first n t → hears (t .core .bus .«bus_state») ≡ false
+pub deaf-half : (first : DaliBitbangPhy) (n : ℕ) (t : DaliBitbangPhy) → InHalf first n t → hears (t .core .bus .«bus_state») ≡ false
 unfolding hears
 deaf-half first n t h = ap hears (h .sending)
 
-kept-half : (first : DaliBitbangPhy) (n : ℕ) (t u : DaliBitbangPhy) → Same t u → InHalf first n t → InHalf first n u
+pub kept-half : (first : DaliBitbangPhy) (n : ℕ) (t u : DaliBitbangPhy) → Same t u → InHalf first n t → InHalf first n u
 kept-half first n t u same h =
     let bus : u .core .bus ≡ t .core .bus = same .bus in
     let tx : u .core .tx ≡ t .core .tx = same .tx in
@@ -275,64 +271,3 @@ half-bit-ticks s r level b more calls few sending next =
       no-clash = no-clash first within (ticksIn calls) t h next few short;
       over = λ fifth. next-begins first within (ticksIn calls) t h next few short (omega arith);
     }
-
--- ---- the last half-bit
--- nothing but calls between follows
-stays : (first : DaliBitbangPhy) (calls : List Call) (t : DaliBitbangPhy) → InHalf first 0 t → ticksIn calls ≡ 0 → InHalf first 0 (afterAll calls t)
-stays first calls t h none =
-    let g : InHalf first (0 + ticksIn calls) (afterAll calls t)
-    = walk (InHalf first) (λ _. Unit {0}) 0 (deaf-half first) (kept-half first)
-    (λ n u b _ less k. absurd (not-suc-le-zero less))
-    calls 0 t (all-any (levelsIn calls)) h (omega arith) in
-    rw none at g
-
-end-tick : (first t : DaliBitbangPhy) → InHalf first 0 t → begun first ≡ toSend first → (b : Bool) → tickOf t b ≡ withCore t (idled (runsCounted (t .core) b))
-unfolding txTick txStep afterStep runsCounted
-end-tick first t h all b =
-    let done : toSend t ≤ begun t = rw (h .store) (omega (arith, h .count)) in
-    tick-tx t b (h .sending) ∙ simp (on-false (ap not (eq-eqb _ _ (h .unarmed))), on-true (le-leb _ _ done))
-
-idle-now : (t : DaliBitbangPhy) (b : Bool) → NoLow (withCore t (idled (runsCounted (t .core) b)))
-unfolding idled runsCounted tickOf tickIn idleTick silent fell pick
-idle-now t b = record { idle = refl; alone = refl }
-
-idle-told : (t : DaliBitbangPhy) (b : Bool) → t .core .told .«tx_yielded» ≡ false → t .core .told .«tx_collision» ≡ 0
-    → polled (withCore t (idled (runsCounted (t .core) b))) .answer ≡ Ok
-unfolding idled runsCounted polled isTx pick
-idle-told t b calm none = rw (calm, none)
-
-pub last-half-bit : LastHalfBit
-unfolding after In
-last-half-bit s r level b all calls none next =
-    let first : DaliBitbangPhy = tickOf s level in
-    let t : DaliBitbangPhy = afterAll calls first in
-    let same : first .«tx_hb» ≡ s .«tx_hb» = ap (λ (u : DaliBitbangPhy). u .«tx_hb») (begin-tick s level b) in
-    let h : InHalf first 0 t = stays first calls first (half-begins s level b) none in
-    let i : In bus.Tx (t .core .runs) (t .core .bus) (t .core .rx) (t .core .told)
-    = subst (λ (x : BusState). In x (t .core .runs) (t .core .bus) (t .core .rx) (t .core .told)) (h .sending)
-    (reached-whole t (reached-all calls first (called (tick level) r)) .core .state) in
-    rw (end-tick first t h (rw same all) next) (record { idle = idle-now t next; told = idle-told t next (i .unyielded) (i .clear) })
-
--- ---- going Idle
-module _ (s : DaliBitbangPhy) (short : toSend s ≤ 54) (sending : IsSending s) (level : Bool) where
-  Ends : Step → Type 0
-  Ends x = IsIdle (withCore s (afterStep x (runsCounted (s .core) level))) → (toSend s ≤ begun s) ⊎ (polled (withCore s (afterStep x (runsCounted (s .core) level))) .answer ≡ Yielded)
-
-  whole : Ends (txStep (s .core .tx) (s .core .«collision_policy») (s .«tx_hb») level)
-  unfolding Ends txStep afterStep armed yielded clashed held driven idled idleTick silent fell runsCounted polled pick
-  whole =
-      cases Ends (not (eqb (s .core .tx .«tx_armed») 0))
-      (λ _. cases Ends (not level && not (s .core .tx .«tx_answer»)) (λ _ _. inr refl) (λ _ e. absurd (idle-not-sending (sym e ∙ sending))))
-      (λ _. cases Ends (leb (toSend s) (begun s)) (λ all _. inl (leb-true _ _ all))
-      (λ more. cases Ends (clashOf (s .core .tx) (s .core .«collision_policy») (toSend s) level) (λ _ e. absurd (idle-not-breaking (sym e)))
-      (λ _. cases Ends (not (eqb (s .core .tx .«tx_sp_cnt») 0)) (λ _ e. absurd (idle-not-sending (sym e ∙ sending)))
-      (λ _. cases Ends (leb 56 (begun s)) (λ used _. absurd (room (leb-false _ _ more) (leb-true _ _ used))) (λ _ e. absurd (idle-not-sending (sym e ∙ sending)))))))
-    where
-      room : begun s < toSend s → 56 ≤ begun s → ⊥
-      room more used = omega (arith, short, more, used)
-
-pub sent-whole : SentWhole
-unfolding Ends
-sent-whole s r sending level idle =
-    let e = tick-by s level sending _ refl in
-    rw e (whole s (reached-whole s r .loads) sending level (rw e at idle))

@@ -7,48 +7,41 @@ use Rattle.machine.specs.declared.BusState.the-variants as bus
 use Rattle.machine.specs.declared.Core.{Core}
 use Rattle.machine.specs.States.{isRx, hears}
 use Rattle.station_theorems.specs.Invariants.{isReceiving, Invariants}
-use Rattle.station_theorems.proofs.Cores.{Good, In, InIdle, InRx}
+use Rattle.station_theorems.proofs.Cores.{Good, In, InOf, InIdle, InRx, in-state}
 use Rattle.station_theorems.proofs.Stations.{Whole, reached-whole}
 
--- what holds in each state, read off for a state that is known by an equation
 module _ (c : Core) (g : Good c) where
-  by : (b : BusState) → c .bus .«bus_state» ≡ b → In b (c .runs) (c .bus) (c .rx) (c .told)
-  by b e = subst (λ (x : BusState). In x (c .runs) (c .bus) (c .rx) (c .told)) e (g .state)
-
   in-idle : c .bus .«bus_state» ≡ bus.Idle → InIdle (c .runs) (c .bus) (c .told .«rx_state»)
   unfolding In
-  in-idle e = by bus.Idle e
+  in-idle e = in-state c g e
 
   in-rx : c .bus .«bus_state» ≡ bus.Rx → InRx (c .runs) (c .bus) (c .rx) (c .told .«rx_state»)
   unfolding In
-  in-rx e = by bus.Rx e
+  in-rx e = in-state c g e
 
 module _ (c : Core) where
-  abbrev At : BusState → Type 0
-  At b = In b (c .runs) (c .bus) (c .rx) (c .told)
-
-  receiving : (b : BusState) → At b → isReceiving (c .told .«rx_state») ≡ isRx b
+  receiving : (b : BusState) → InOf b c → isReceiving (c .told .«rx_state») ≡ isRx b
   unfolding In isRx
   receiving bus.Idle i = i .receiving
   receiving bus.Rx i = i .receiving
   receiving bus.Tx i = i .receiving
   receiving bus.CollisionTx i = i .receiving
 
-  released : (b : BusState) → At b → hears b ≡ true → c .bus .«driven_high» ≡ true
+  released : (b : BusState) → InOf b c → hears b ≡ true → c .bus .«driven_high» ≡ true
   unfolding In hears
   released bus.Idle i h = i .released
   released bus.Rx i h = i .released
   released bus.Tx i h = absurd (false≢true h)
   released bus.CollisionTx i h = absurd (false≢true h)
 
-  busy : (b : BusState) → At b → c .bus .«tx_busy» ≡ not (hears b)
+  busy : (b : BusState) → InOf b c → c .bus .«tx_busy» ≡ not (hears b)
   unfolding In hears
   busy bus.Idle i = i .busy
   busy bus.Rx i = i .busy
   busy bus.Tx i = i .busy
   busy bus.CollisionTx i = i .busy
 
-  marked : (b : BusState) → At b → c .told .«tx_idle_after_break» ≡ true → hears b ≡ true
+  marked : (b : BusState) → InOf b c → c .told .«tx_idle_after_break» ≡ true → hears b ≡ true
   unfolding In hears
   marked bus.Idle i m = refl
   marked bus.Rx i m = refl

@@ -1,4 +1,7 @@
 pub mod Cores
+pub mod CoreSamples
+pub mod CoreTicks
+pub mod CoreCalls
 pub mod Holding
 pub mod Shown
 pub mod Stations
@@ -10,6 +13,7 @@ pub mod Clashes
 pub mod Breaking
 pub mod Captures
 pub mod HalfBits
+pub mod LastHalfBit
 pub mod Arming
 pub mod Counts
 pub mod Timing

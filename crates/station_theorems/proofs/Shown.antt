@@ -37,7 +37,8 @@ use Rattle.station_theorems.specs.Ticks.{IsIdle, IsSending, IsBreaking, 
 use Rattle.station_theorems.specs.OverTicks.{runOf, idleCount, NoLow, OneLow, InIdle, Hears, Captured, begun, toSend, Begins, Drives, Yields, Watches, IsClash, SeesClash, Sent, a-frame, Break}
 use Rattle.station_theorems.proofs.Counts.{run-lengths, becomes-idle}
 use Rattle.station_theorems.proofs.Captures.{idle-ticks, capture-ends}
-use Rattle.station_theorems.proofs.HalfBits.{half-bits-driven, half-bit-ticks, last-half-bit, sent-whole}
+use Rattle.station_theorems.proofs.HalfBits.{half-bits-driven, half-bit-ticks}
+use Rattle.station_theorems.proofs.LastHalfBit.{last-half-bit, sent-whole}
 use Rattle.station_theorems.proofs.Arming.{frame-armed, answer-armed}
 use Rattle.station_theorems.proofs.Clashes.{clash-seen}
 use Rattle.station_theorems.proofs.Breaking.{break-ticks}

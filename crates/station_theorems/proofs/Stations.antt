@@ -35,7 +35,9 @@ use Rattle.fsm.specs.Polling.{polled}
 use Rattle.fsm.specs.Calls.{withPolicy, tookIdle, hasEvent, acknowledged, tookRx}
 use Rattle.station_theorems.specs.Calls.{Call, tick, start-tx, start-answer, poll, take-idle, take-rx, acknowledge, policy, after, Reached, new, called}
 use Rattle.station_theorems.specs.Invariants.{isReceiving}
-use Rattle.station_theorems.proofs.Cores.{Good, In, rxCore, coreAfter, act-good, whole, loaded-good, telling-good, taken-good}
+use Rattle.station_theorems.proofs.Cores.{Good, In, InOf, in-state}
+use Rattle.station_theorems.proofs.CoreTicks.{rxCore, coreAfter, act-good, whole}
+use Rattle.station_theorems.proofs.CoreCalls.{loaded-good, telling-good, taken-good}
 
 pub record Whole (s : DaliBitbangPhy) : Type 0 where
   pub core : Good (s .core)
@@ -90,7 +92,7 @@ module _ (s : DaliBitbangPhy) (w : Whole s) (high : Bool) where
       let c : Core = runsCounted (s .core) high in
       let r : Rx = sampled (s .core .rx) high in
       let g : Good (rxCore c high) = act-good bus.Rx (s .core) (s .«tx_hb») high e (w .core) in
-      let i : In bus.Rx (s .core .runs) (s .core .bus) (s .core .rx) (s .core .told) = subst (λ (x : BusState). In x (s .core .runs) (s .core .bus) (s .core .rx) (s .core .told)) e (w .core .state) in
+      let i : InOf bus.Rx (s .core) = in-state (s .core) (w .core) e in
       cases Whole (goesOn r)
       (λ few. record { core = subst Good (on-true few (withRx c r) (finished c r)) g; loads = w .loads; counts = w .counts })
       (λ done. record { core = subst Good (on-false done (withRx c r) (finished c r)) g; loads = w .loads; counts = λ _. whole (s .core) (w .core .any) i e high done })
