@@ -15,7 +15,7 @@ use Rattle.text.specs.Decimals.{decimalOf}
 use Rattle.text.specs.Signed.{signedOf}
 use Rattle.text.specs.Hex.{hexOf, hexesOf}
 use Rattle.text.specs.Writing.{roomAt, placeAfter, bufferAfter}
-use Rattle.text.proofs.DecimalLaws.{length-decimal}
+use Rattle.text.proofs.DecimalDigits.{length-decimal}
 use Rattle.text.proofs.SignedLaws.{length-signed}
 use Rattle.text.proofs.WritingLaws.{Past, stored, written, unwritten, enough, too-little, then as stored-then}
 use Rattle.rx_decode.specs.declared.SniffedFrame.{SniffedFrame}

@@ -18,7 +18,8 @@ use Rattle.text.specs.Decimals.{isDigit, valueOf, isUpTo, decimalIn, decimalOf}
 use Rattle.text.specs.Hex.{digitValue, allHex, isHex, hexDigit, hexOf, hexesOf}
 use Rattle.text.specs.ReadBack.{Without, AllBytes}
 use Rattle.text.proofs.FieldLaws.{fields-back}
-use Rattle.text.proofs.DecimalLaws.{both-true, length-decimal, decimal-back}
+use Rattle.text.proofs.DecimalLaws.{both-true}
+use Rattle.text.proofs.DecimalDigits.{length-decimal, decimal-back}
 use Rattle.text.proofs.HexLaws.{length-hexes, hexes-hex, hexes-bytes}
 use Rattle.bench_text.specs.Rules.{lineMax, silenceMax, countMax, isShort, hasFields, hasNumbers, hasSamples, judgedBy}
 use Rattle.bench_text.specs.Line.{captureWith, goodLine, bookLineAs, bookLineOf}

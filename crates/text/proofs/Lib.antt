@@ -1,3 +1,4 @@
+pub mod DecimalDigits
 pub mod DecimalLaws
 pub mod Digits
 pub mod FieldLaws

@@ -12,7 +12,7 @@ use Rattle.text.specs.Decimals.{isDigit, allDigits, isDecimal, valueFrom
 use Rattle.text.specs.Signed.{belowZero, signedIn, signedOf}
 use Rattle.text.specs.Hex.{digitValue, hexDigit, allHex, bytesOf, isHex, filledBy, hexOf, hexesOf, hexValueFrom, hexNumberIn, hexDigitsOf}
 use Rattle.text.specs.ReadBack.{AllBytes}
-use Rattle.text.proofs.DecimalLaws.{decimals-back}
+use Rattle.text.proofs.DecimalDigits.{decimals-back}
 use Rattle.text.proofs.SignedLaws.{signed-back}
 use Rattle.text.proofs.HexLaws.{hex-back, hex-numbers-back}
 

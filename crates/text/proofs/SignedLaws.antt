@@ -26,7 +26,8 @@ use Rattle.text.specs.Decimals.{isDigit, allDigits, isDecimal, valueFrom
 use Rattle.text.specs.Signed.{belowZero, signedIn, signedOf}
 use Rattle.text.specs.ReadBack.{SignedBack}
 use Rattle.text.specs.Code.{minusAnd}
-use Rattle.text.proofs.DecimalLaws.{no-byte-read, byte-read, length-decimal}
+use Rattle.text.proofs.DecimalLaws.{no-byte-read, byte-read}
+use Rattle.text.proofs.DecimalDigits.{length-decimal}
 
 -- ---- each way in which the code answers on what stands behind a minus
 -- by a computed test of all that fit

@@ -4,7 +4,7 @@ use Prim.Native.Nat.{_+_, _≤_}
 use native.Mathlib.Omega.{arith}
 use lib.ListN.{length}
 use Rattle.text.specs.Decimals.{decimalOf}
-use Rattle.text.proofs.DecimalLaws.{decimal-one, places-more, length-decimal}
+use Rattle.text.proofs.DecimalDigits.{decimal-one, places-more, length-decimal}
 use borrow.Author.Needs.{needs}
 use Rattle.text.proofs.decimals.places.Statement.{statement}
 use Rattle.text.proofs.decimals.places.Tie as tie

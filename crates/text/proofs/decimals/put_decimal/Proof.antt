@@ -1,7 +1,7 @@
 -- `text::decimals::put_decimal` meets its contract. Assumes nothing.
 use native.Mathlib.Omega.{arith}
 use Rattle.text.proofs.WritingLaws.{told}
-use Rattle.text.proofs.DecimalLaws.{decimal-put}
+use Rattle.text.proofs.DecimalDigits.{decimal-put}
 use borrow.Author.Needs.{needs}
 use Rattle.text.proofs.decimals.put_decimal.Statement.{statement}
 use Rattle.text.proofs.decimals.put_decimal.Tie as tie

@@ -7,7 +7,7 @@ use lib.Seq.{sets}
 use Rattle.text.specs.Code.{digits}
 use Rattle.text.proofs.WritingLaws.{enough, too-little, unwritten, written, put-of}
 use Rattle.text.proofs.Digits.{stored-on, stored-end}
-use Rattle.text.proofs.DecimalLaws.{last-digits, length-digits}
+use Rattle.text.proofs.DecimalDigits.{last-digits, length-digits}
 use borrow.Author.Needs.{needs}
 use Rattle.text.proofs.decimals.put_digits.Statement.{statement}
 use Rattle.text.proofs.decimals.put_digits.Tie as tie

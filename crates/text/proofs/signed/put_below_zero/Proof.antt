@@ -8,7 +8,7 @@ use Rattle.text.specs.Letters.{minus}
 use Rattle.text.specs.Decimals.{decimalOf}
 use Rattle.text.specs.Code.{minusAnd}
 use Rattle.text.proofs.WritingLaws.{enough, too-little, unwritten, written, stored, then}
-use Rattle.text.proofs.DecimalLaws.{length-decimal}
+use Rattle.text.proofs.DecimalDigits.{length-decimal}
 use borrow.Author.Needs.{needs}
 use Rattle.text.proofs.signed.put_below_zero.Statement.{statement}
 use Rattle.text.proofs.signed.put_below_zero.Tie as tie
