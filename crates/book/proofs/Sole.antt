@@ -1,7 +1,7 @@
 -- Any two results that meet a public promise of this crate are equal, the buffer that was lent included. `Post` is the promise itself, as
 -- the check reads it from the source. Assumes nothing.
 use mathlib.Core.Path.{_≡_}
-use Rattle.laws.proofs.Only.{Only, alike, named}
+use Rattle.laws.proofs.Only.{Only, named, both-named-and}
 use Rattle.book.proofs.BookReader.new.Reads as new-reader
 use Rattle.book.proofs.BookReader.is_full.Reads as is-full
 use Rattle.book.proofs.BookReader.is_over.Reads as is-over
@@ -18,7 +18,7 @@ pub is-over-sole : (κs : _) (a : _) (x : _) → Only (λ r. is-over.Post κs a 
 is-over-sole κs a x = named _
 
 pub feed-sole : (κs : _) (a : _) (r s : _) (x y : _) → feed.Post κs a r x → feed.Post κs a s y → (r ≡ s) × (x .1 .1 .0 .now ≡ y .1 .1 .0 .now)
-feed-sole κs a r s x y p q = (alike (p .0) (q .0), alike (p .1 .0) (q .1 .0))
+feed-sole κs a r s x y = both-named-and
 
 pub finish-sole : (κs : _) (a : _) (r s : _) (x y : _) → finish.Post κs a r x → finish.Post κs a s y → (r ≡ s) × (x .1 .0 .now ≡ y .1 .0 .now)
-finish-sole κs a r s x y p q = (alike (p .0) (q .0), alike (p .1 .0) (q .1 .0))
+finish-sole κs a r s x y = both-named-and

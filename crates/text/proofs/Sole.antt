@@ -1,7 +1,7 @@
 -- Any two results that meet a public promise of this crate are equal, the buffer that was lent included. `Post` is the promise itself, as
 -- the check reads it from the source. Assumes nothing.
 use mathlib.Core.Path.{_≡_}
-use Rattle.laws.proofs.Only.{Only, alike, named}
+use Rattle.laws.proofs.Only.{Only, alike, named, both-named}
 use Rattle.text.proofs.fields.find.Reads as find
 use Rattle.text.proofs.fields.first.Reads as first
 use Rattle.text.proofs.fields.count.Reads as count
@@ -26,13 +26,13 @@ pub find-sole : (κs : _) (a : _) (x : _) → Only (λ r. find.Post κs a r x)
 find-sole κs a x = named _
 
 pub first-sole : (κs : _) (a : _) (r s : _) (x y : _) → first.Post κs a r x → first.Post κs a s y → r .now ≡ s .now
-first-sole κs a r s x y p q = alike p q
+first-sole κs a r s x y = alike
 
 pub count-sole : (κs : _) (a : _) (x : _) → Only (λ r. count.Post κs a r x)
 count-sole κs a x = named _
 
 pub field-sole : (κs : _) (a : _) (r s : _) (x y : _) → field.Post κs a r x → field.Post κs a s y → r .now ≡ s .now
-field-sole κs a r s x y p q = alike p q
+field-sole κs a r s x y = alike
 
 -- ---- the words
 pub is-sole : (κs : _) (a : _) (x : _) → Only (λ r. is-word.Post κs a r x)
@@ -52,7 +52,7 @@ pub read-signed-sole : (κs : _) (a : _) (x : _) → Only (λ r. read-signed.Pos
 read-signed-sole κs a x = named _
 
 pub read-hex-sole : (κs : _) (a : _) (r s : _) (x y : _) → read-hex.Post κs a r x → read-hex.Post κs a s y → (r ≡ s) × (x .1 .0 .now ≡ y .1 .0 .now)
-read-hex-sole κs a r s x y p q = (alike (p .0) (q .0), alike (p .1) (q .1))
+read-hex-sole κs a r s x y = both-named
 
 pub read-hex-number-sole : (κs : _) (a : _) (x : _) → Only (λ r. read-hex-number.Post κs a r x)
 read-hex-number-sole κs a x = named _
@@ -62,19 +62,19 @@ pub has-room-sole : (κs : _) (a : _) (x : _) → Only (λ r. has-room.Post κs 
 has-room-sole κs a x = named _
 
 pub put-byte-sole : (κs : _) (a : _) (r s : _) (x y : _) → put-byte.Post κs a r x → put-byte.Post κs a s y → (r ≡ s) × (x .0 .now ≡ y .0 .now)
-put-byte-sole κs a r s x y p q = (alike (p .0) (q .0), alike (p .1) (q .1))
+put-byte-sole κs a r s x y = both-named
 
 pub put-text-sole : (κs : _) (a : _) (r s : _) (x y : _) → put-text.Post κs a r x → put-text.Post κs a s y → (r ≡ s) × (x .0 .now ≡ y .0 .now)
-put-text-sole κs a r s x y p q = (alike (p .0) (q .0), alike (p .1) (q .1))
+put-text-sole κs a r s x y = both-named
 
 pub put-decimal-sole : (κs : _) (a : _) (r s : _) (x y : _) → put-decimal.Post κs a r x → put-decimal.Post κs a s y → (r ≡ s) × (x .0 .now ≡ y .0 .now)
-put-decimal-sole κs a r s x y p q = (alike (p .0) (q .0), alike (p .1) (q .1))
+put-decimal-sole κs a r s x y = both-named
 
 pub put-signed-sole : (κs : _) (a : _) (r s : _) (x y : _) → put-signed.Post κs a r x → put-signed.Post κs a s y → (r ≡ s) × (x .0 .now ≡ y .0 .now)
-put-signed-sole κs a r s x y p q = (alike (p .0) (q .0), alike (p .1) (q .1))
+put-signed-sole κs a r s x y = both-named
 
 pub put-hex-sole : (κs : _) (a : _) (r s : _) (x y : _) → put-hex.Post κs a r x → put-hex.Post κs a s y → (r ≡ s) × (x .0 .now ≡ y .0 .now)
-put-hex-sole κs a r s x y p q = (alike (p .0) (q .0), alike (p .1) (q .1))
+put-hex-sole κs a r s x y = both-named
 
 pub put-hex-digits-sole : (κs : _) (a : _) (r s : _) (x y : _) → put-hex-digits.Post κs a r x → put-hex-digits.Post κs a s y → (r ≡ s) × (x .0 .now ≡ y .0 .now)
-put-hex-digits-sole κs a r s x y p q = (alike (p .0) (q .0), alike (p .1) (q .1))
+put-hex-digits-sole κs a r s x y = both-named
