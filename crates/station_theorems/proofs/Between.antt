@@ -1,5 +1,6 @@
 -- What calls other than ticks leave as it is. Assumes nothing.
 use mathlib.Core.Bool.{Bool, true, false, not, false≢true}
+use mathlib.Core.List.{[]}
 use mathlib.Core.Path.{_≡_, refl, sym, _∙_}
 use lib.Dec.{eqb}
 use Rattle.laws.proofs.Picked.{on-false, cases}
@@ -16,6 +17,7 @@ use Rattle.machine.specs.States.{isIdle, hears, isTx}
 use Rattle.fsm.specs.Polling.{polled}
 use Rattle.fsm.specs.Calls.{withPolicy, tookIdle, hasEvent, acknowledged, tookRx}
 use Rattle.station_theorems.specs.Calls.{Call, tick, start-tx, start-answer, poll, take-idle, take-rx, acknowledge, policy, after, isBetween}
+use Rattle.station_theorems.specs.Ticks.{levelIn}
 
 -- all of a station but its marks and its policy; of its last event, what is told
 pub record Same (s t : DaliBitbangPhy) : Type 0 where
@@ -83,17 +85,6 @@ answer-refused s hb e = on-false e (started s hb true) (startedWith s start.Busy
 pub refused-keeps : (P : DaliBitbangPhy → Type 0) (s : DaliBitbangPhy) (x : Started) → x ≡ startedWith s start.Busy → P s → P (x .station)
 refused-keeps P s x e p = rw e p
 
--- in Tx and Collision every start is refused, so that whatever is called leaves that as it is
-unfoldable pub isTick : Call → Bool
-isTick (tick high) = true
-isTick (start-tx hb) = false
-isTick (start-answer hb) = false
-isTick poll = false
-isTick take-idle = false
-isTick take-rx = false
-isTick acknowledge = false
-isTick (policy p) = false
-
 deaf-idle : (b : BusState) → hears b ≡ false → isIdle b ≡ false
 unfolding hears isIdle
 deaf-idle bus.Idle h = absurd (false≢true (sym h))
@@ -101,13 +92,26 @@ deaf-idle bus.Rx h = refl
 deaf-idle bus.Tx h = refl
 deaf-idle bus.CollisionTx h = refl
 
-pub busy-same : (c : Call) (s : DaliBitbangPhy) → isTick c ≡ false → hears (s .core .bus .«bus_state») ≡ false → Same s (after c s)
-unfolding isTick after isBetween
-busy-same (tick high) s n h = absurd (false≢true (sym n))
-busy-same (start-tx hb) s n h = refused-keeps (Same s) s (startTx s hb) (tx-refused s hb (deaf-idle _ h)) (itself s)
-busy-same (start-answer hb) s n h = refused-keeps (Same s) s (startAnswer s hb) (answer-refused s hb h) (itself s)
-busy-same poll s n h = between-same poll s refl
-busy-same take-idle s n h = between-same take-idle s refl
-busy-same take-rx s n h = between-same take-rx s refl
-busy-same acknowledge s n h = between-same acknowledge s refl
-busy-same (policy p) s n h = between-same (policy p) s refl
+-- ---- by cases on a call
+-- It is a tick, a start, or a call that a host may make between any two ticks.
+pub by-kind : (P : Call → Type 0) → ((high : Bool) → P (tick high)) → ((hb : HalfBitBuffer) → P (start-tx hb)) → ((hb : HalfBitBuffer) → P (start-answer hb))
+    → ((c : Call) → isBetween c ≡ true → levelIn c ≡ [] → P c) → (c : Call) → P c
+unfolding isBetween levelIn
+by-kind P ticks frames answers others (tick high) = ticks high
+by-kind P ticks frames answers others (start-tx hb) = frames hb
+by-kind P ticks frames answers others (start-answer hb) = answers hb
+by-kind P ticks frames answers others poll = others poll refl refl
+by-kind P ticks frames answers others take-idle = others take-idle refl refl
+by-kind P ticks frames answers others take-rx = others take-rx refl refl
+by-kind P ticks frames answers others acknowledge = others acknowledge refl refl
+by-kind P ticks frames answers others (policy p) = others (policy p) refl refl
+
+-- Or it is a tick, or leaves a station that sends or breaks as it is: every start is then refused.
+pub by-call : (P : Call → Type 0) → ((high : Bool) → P (tick high))
+    → ((c : Call) → ((s : DaliBitbangPhy) → hears (s .core .bus .«bus_state») ≡ false → Same s (after c s)) → levelIn c ≡ [] → P c) → (c : Call) → P c
+unfolding after levelIn
+by-call P ticks others =
+    by-kind P ticks
+    (λ hb. others (start-tx hb) (λ s h. refused-keeps (Same s) s (startTx s hb) (tx-refused s hb (deaf-idle _ h)) (itself s)) refl)
+    (λ hb. others (start-answer hb) (λ s h. refused-keeps (Same s) s (startAnswer s hb) (answer-refused s hb h) (itself s)) refl)
+    (λ c between. others c (λ s _. between-same c s between))

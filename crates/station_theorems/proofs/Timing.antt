@@ -28,8 +28,7 @@ use Rattle.station_theorems.specs.Calls.{Call, after, afterAll, Reached}
 use Rattle.station_theorems.specs.Ticks.{drives, IsSending, IsBreaking, StaysSending, levelIn, levelsIn, ticksIn}
 use Rattle.station_theorems.specs.OverTicks.{begun, toSend, halfBitLevel, IsClash, OnTime, Starts, a-frame, an-answer, SendsOnTime}
 use Rattle.station_theorems.proofs.Stations.{fits}
-use Rattle.station_theorems.proofs.Between.{Same, busy-same}
-use Rattle.station_theorems.proofs.Walking.{by-call}
+use Rattle.station_theorems.proofs.Between.{Same, by-call}
 use Rattle.station_theorems.proofs.Clashes.{Told, clash-told, told-clash, is-high, breaking-clash}
 use Rattle.station_theorems.proofs.Arming.{quiet, idle-hears, tx-taken, answer-taken}
 use Rattle.station_theorems.proofs.ByState.{tick-by, sending-not-breaking, idle-not-sending, idle-not-breaking}
@@ -272,7 +271,7 @@ module _ (hb : HalfBitBuffer) (short : hb .length ≤ 54) where
       let next : Timed hb (suc m) (tickOf t b) = timed-on hb short m t h b (still cs (tickOf t b) (on .1)) in
       let all : Timed hb (suc m + ticksIn cs) (afterAll cs (tickOf t b)) = timed cs (suc m) (tickOf t b) next (on .1) in
       subst (λ (k : ℕ). Timed hb k (afterAll cs (tickOf t b))) (omega arith) all)
-      (λ c other none. rw none (λ on. timed cs m (after c t) (timed-kept hb m t (after c t) (busy-same c t other (ap hears (h .sending))) h) (on .1))) c on
+      (λ c same none. rw none (λ on. timed cs m (after c t) (timed-kept hb m t (after c t) (same t (ap hears (h .sending))) h) (on .1))) c on
 
   on-time : (cs : List Call) (t : DaliBitbangPhy) → Timed hb 0 t → StaysSending cs t → OnTime hb (ticksIn cs) (afterAll cs t)
   on-time cs t h on =

@@ -9,9 +9,9 @@ use lib.ListN.{replicate}
 use Rattle.fsm.specs.declared.DaliBitbangPhy.{DaliBitbangPhy}
 use Rattle.fsm.specs.Ticking.{tickOf}
 use Rattle.machine.specs.States.{hears}
-use Rattle.station_theorems.specs.Calls.{Call, tick, start-tx, start-answer, poll, take-idle, take-rx, acknowledge, policy, after, afterAll, Reached, called}
+use Rattle.station_theorems.specs.Calls.{Call, after, afterAll, Reached, called}
 use Rattle.station_theorems.specs.Ticks.{levelIn, levelsIn, ticksIn}
-use Rattle.station_theorems.proofs.Between.{Same, isTick, busy-same}
+use Rattle.station_theorems.proofs.Between.{Same, by-call}
 
 pub reached-all : (cs : List Call) (s : DaliBitbangPhy) → Reached s → Reached (afterAll cs s)
 unfolding afterAll
@@ -33,18 +33,6 @@ unfolding All
 all-same zero b = tt
 all-same (suc n) b = (refl, all-same n b)
 
--- ---- a call is a tick, or samples no level
-pub by-call : (P : Call → Type 0) → ((b : Bool) → P (tick b)) → ((c : Call) → isTick c ≡ false → levelIn c ≡ [] → P c) → (c : Call) → P c
-unfolding isTick levelIn
-by-call P ticks others (tick b) = ticks b
-by-call P ticks others (start-tx hb) = others (start-tx hb) refl refl
-by-call P ticks others (start-answer hb) = others (start-answer hb) refl refl
-by-call P ticks others poll = others poll refl refl
-by-call P ticks others take-idle = others take-idle refl refl
-by-call P ticks others take-rx = others take-rx refl refl
-by-call P ticks others acknowledge = others acknowledge refl refl
-by-call P ticks others (policy p) = others (policy p) refl refl
-
 -- ---- the walk
 -- `P n` is kept by every other call, and a tick that samples a level that is `ok` leads from `P n` to the next, up to `end`.
 module _ (P : ℕ → DaliBitbangPhy → Type 0) (ok : Bool → Type 0) (end : ℕ)
@@ -59,4 +47,4 @@ module _ (P : ℕ → DaliBitbangPhy → Type 0) (ok : Bool → Type 0) (end : �
       (λ b a h le.
       let next : P (suc n) (tickOf s b) = ticks n s b (a .0) (omega arith) h in
       rw (add-suc n (ticksIn cs), ← suc-add n (ticksIn cs)) (walk cs (suc n) (tickOf s b) (a .1) next (omega arith)))
-      (λ c other none. rw none (λ a h le. walk cs n (after c s) a (kept n s _ (busy-same c s other (deaf n s h)) h) le)) c a h le
+      (λ c same none. rw none (λ a h le. walk cs n (after c s) a (kept n s _ (same s (deaf n s h)) h) le)) c a h le
