@@ -2,8 +2,8 @@
 use Prim.Native.Nat.{ℕ, _+_, _%_, _≤_, _<_, min}
 use native.Mathlib.Omega.{arith}
 use native.Mathlib.Nat.{not-suc-le-zero}
-use mathlib.Core.Bool.{Bool, true, false, not, false≢true, _&&_, _||_}
-use mathlib.Core.Path.{_≡_, refl, sym, _∙_, ap}
+use mathlib.Core.Bool.{Bool, true, false, not, false≢true, _||_}
+use mathlib.Core.Path.{_≡_, refl, sym, _∙_, ap, subst}
 use lib.Dec.{eqb, ltb, leb}
 use borrow.Author.Tests.{eqb-true, eqb-false, eq-eqb, ne-eqb}
 use Rattle.laws.specs.Bit.{bit}
@@ -16,7 +16,6 @@ use Rattle.machine.specs.declared.BusState.the-variants as bus
 use Rattle.machine.specs.declared.CollisionPolicy.{CollisionPolicy}
 use Rattle.machine.specs.declared.CollisionPolicy.the-variants.{Auto, Off, On}
 use Rattle.machine.specs.declared.Tx.{Tx}
-use Rattle.machine.specs.declared.TxHb.{TxHb}
 use Rattle.machine.specs.declared.Core.{Core}
 use Rattle.machine.specs.Runs.{runsCounted}
 use Rattle.machine.specs.BecomingIdle.{idled}
@@ -34,13 +33,14 @@ use Rattle.fsm.specs.Ticking.{tickOf}
 use Rattle.fsm.specs.Starting.{lengthFits, startedWith, loadedWith, started, startTx, startAnswer}
 use Rattle.machine.specs.States.{isIdle, hears, isTx}
 use Rattle.fsm.specs.Polling.{polled}
-use Rattle.station_theorems.specs.Calls.{Call, tick, start-tx, start-answer, poll, take-idle, take-rx, acknowledge, policy, after, isBetween, Reached, new, called}
+use Rattle.station_theorems.specs.Calls.{Call, after, Reached, new, called}
 use Rattle.station_theorems.specs.Ticks.{drives, IsSending, IsBreaking}
 use Rattle.station_theorems.specs.OverTicks.{toSend, Watches, ClashSeen}
 use Rattle.station_theorems.proofs.Cores.{In, InOf, in-state}
 use Rattle.station_theorems.proofs.Stations.{reached-whole}
-use Rattle.station_theorems.proofs.Between.{Same, between-same}
+use Rattle.station_theorems.proofs.Between.{Same, between-same, by-kind}
 use Rattle.station_theorems.proofs.ByState.{tick-idle, tick-rx, tick-tx, tick-by, tick-break, sending-not-breaking, idle-not-breaking, idle-not-sending}
+use Rattle.station_theorems.proofs.Steps.{Why, why}
 
 -- ---- within a half-bit the level kept for watching is the one that is driven
 abbrev Steady : Core → Type 0
@@ -101,15 +101,11 @@ same-steady s t same h =
     rw (b, x) h
 
 call-steady : (s : DaliBitbangPhy) (c : Call) → Steady (s .core) → Steady (after c s .core)
-unfolding after isBetween startTx startAnswer
-call-steady s (tick high) h = tick-steady s high (s .core .bus .«bus_state») refl h
-call-steady s (start-tx hb) h = start-steady s (isIdle (s .core .bus .«bus_state»)) hb false h
-call-steady s (start-answer hb) h = start-steady s (hears (s .core .bus .«bus_state»)) hb true h
-call-steady s poll h = same-steady s _ (between-same poll s refl) h
-call-steady s take-idle h = same-steady s _ (between-same take-idle s refl) h
-call-steady s take-rx h = same-steady s _ (between-same take-rx s refl) h
-call-steady s acknowledge h = same-steady s _ (between-same acknowledge s refl) h
-call-steady s (policy p) h = same-steady s _ (between-same (policy p) s refl) h
+unfolding after startTx startAnswer
+call-steady s c h =
+    by-kind (λ c. Steady (after c s .core)) (λ high. tick-steady s high (s .core .bus .«bus_state») refl h)
+    (λ hb. start-steady s (isIdle (s .core .bus .«bus_state»)) hb false h) (λ hb. start-steady s (hears (s .core .bus .«bus_state»)) hb true h)
+    (λ c between _. same-steady s _ (between-same c s between) h) c
 
 steady : (s : DaliBitbangPhy) → Reached s → Steady (s .core)
 unfolding newStation newCore
@@ -170,17 +166,9 @@ told-clash tx p len high t =
     in-time n true one from to = or-on one (eqb n 2)
     in-time n false other from to = or-off other (eqb n 2) ∙ eq-eqb n 2 (let ne : n ≡ 1 → ⊥ = eqb-false n 1 other in omega (arith, ne))
 
--- only where it holds is the step a clash
-isClash : Step → Bool
-isClash Arm = false
-isClash Yield = false
-isClash End = false
-isClash Clash = true
-isClash Hold = false
-isClash (Drive out) = false
-
-stepped-clash : (x : Step) (c : Core) → c .bus .«bus_state» ≡ bus.Tx → afterStep x c .bus .«bus_state» ≡ bus.CollisionTx → isClash x ≡ true
-unfolding afterStep armed yielded clashed held driven idled idleTick silent fell pick isClash
+-- the step that leads to the break
+stepped-clash : (x : Step) (c : Core) → c .bus .«bus_state» ≡ bus.Tx → afterStep x c .bus .«bus_state» ≡ bus.CollisionTx → x ≡ Clash
+unfolding afterStep armed yielded clashed held driven idled idleTick silent fell pick
 stepped-clash Arm c e f = absurd (sending-not-breaking (sym e ∙ f))
 stepped-clash Yield c e f = absurd (idle-not-breaking f)
 stepped-clash End c e f = absurd (idle-not-breaking f)
@@ -188,51 +176,35 @@ stepped-clash Clash c e f = refl
 stepped-clash Hold c e f = absurd (sending-not-breaking (sym e ∙ f))
 stepped-clash (Drive high) c e f = absurd (sending-not-breaking (sym e ∙ f))
 
-step-clash : (tx : Tx) (p : CollisionPolicy) (hb : TxHb) (high : Bool) → isClash (txStep tx p hb high) ≡ true → clashOf tx p (hb .«tx_hb_len») high ≡ true
-unfolding txStep isClash
-step-clash tx p hb high =
-    let P : Step → Type 0 = λ (x : Step). isClash x ≡ true → clashOf tx p (hb .«tx_hb_len») high ≡ true in
-    cases P (not (eqb (tx .«tx_armed») 0))
-    (λ _. cases P (not high && not (tx .«tx_answer»)) (λ _ e. absurd (false≢true e)) (λ _ e. absurd (false≢true e)))
-    (λ _. cases P (leb (hb .«tx_hb_len») (tx .«tx_hb_cnt»)) (λ _ e. absurd (false≢true e))
-    (λ _. cases P (clashOf tx p (hb .«tx_hb_len») high) (λ c _. c)
-    (λ _. cases P (not (eqb (tx .«tx_sp_cnt») 0)) (λ _ e. absurd (false≢true e))
-    (λ _. cases P (leb 56 (tx .«tx_hb_cnt»)) (λ _ e. absurd (false≢true e)) (λ _ e. absurd (false≢true e))))))
-
 -- ---- what is told of it
-clashed-told : (x : Step) (s : DaliBitbangPhy) (c : Core) → isClash x ≡ true → c .told .«tx_yielded» ≡ false → c .told .«tx_collision» ≡ 0
-    → (polled (withCore s (afterStep x c)) .answer ≡ Collision) × (afterStep x c .bus .«driven_high» ≡ c .bus .«driven_high»)
-unfolding isClash afterStep clashed polled
-clashed-told Arm s c e calm none = absurd (false≢true e)
-clashed-told Yield s c e calm none = absurd (false≢true e)
-clashed-told End s c e calm none = absurd (false≢true e)
-clashed-told Clash s c e calm none =
+clashed-told : (s : DaliBitbangPhy) (c : Core) → c .told .«tx_yielded» ≡ false → c .told .«tx_collision» ≡ 0
+    → (polled (withCore s (afterStep Clash c)) .answer ≡ Collision) × (afterStep Clash c .bus .«driven_high» ≡ c .bus .«driven_high»)
+unfolding afterStep clashed polled
+clashed-told s c calm none =
     (rw none (simp (on-false calm, on-true (ap not (ne-eqb 1 0 (λ f. let no : ⊥ = omega (arith, f) in no))))), refl)
-clashed-told Hold s c e calm none = absurd (false≢true e)
-clashed-told (Drive high) s c e calm none = absurd (false≢true e)
 
 pub is-high : (b : Bool) (n : ℕ) → n ≡ bit b → (n ≡ 0 → ⊥) → b ≡ true
 is-high true n e some = refl
 is-high false n e some = absurd (some e)
 
-pub breaking-clash : (s : DaliBitbangPhy) (level : Bool) → IsSending s → IsBreaking (tickOf s level)
-    → clashOf (s .core .tx) (s .core .«collision_policy») (toSend s) level ≡ true
-unfolding runsCounted
-breaking-clash s level sending breaking =
-    let x : Step = txStep (s .core .tx) (s .core .«collision_policy») (s .«tx_hb») level in
-    let e : tickOf s level ≡ withCore s (afterStep x (runsCounted (s .core) level)) = tick-by s level sending x refl in
-    step-clash (s .core .tx) (s .core .«collision_policy») (s .«tx_hb») level
-    (stepped-clash x (runsCounted (s .core) level) sending (sym (ap (λ (t : DaliBitbangPhy). t .core .bus .«bus_state») e) ∙ breaking))
+module _ (s : DaliBitbangPhy) (level : Bool) (sending : IsSending s) (breaking : IsBreaking (tickOf s level)) where
+  is-clash : txStep (s .core .tx) (s .core .«collision_policy») (s .«tx_hb») level ≡ Clash
+  unfolding runsCounted
+  is-clash =
+      let e = tick-by s level sending _ refl in
+      stepped-clash _ (runsCounted (s .core) level) sending (sym (ap (λ (t : DaliBitbangPhy). t .core .bus .«bus_state») e) ∙ breaking)
+
+  pub breaking-clash : clashOf (s .core .tx) (s .core .«collision_policy») (toSend s) level ≡ true
+  unfolding Why
+  breaking-clash = subst (Why _ _ _ level) is-clash (why (s .core .tx) (s .core .«collision_policy») (s .«tx_hb») level)
 
 pub clash-seen : ClashSeen
-unfolding txTick runsCounted In
+unfolding runsCounted In
 clash-seen s r sending level breaking =
     let c : Core = runsCounted (s .core) level in
-    let x : Step = txStep (c .tx) (c .«collision_policy») (s .«tx_hb») level in
-    let e : tickOf s level ≡ withCore s (afterStep x c) = tick-tx s level sending in
-    let is : isClash x ≡ true = stepped-clash x c sending (sym (ap (λ (t : DaliBitbangPhy). t .core .bus .«bus_state») e) ∙ breaking) in
+    let e : tickOf s level ≡ withCore s (afterStep Clash c) = tick-by s level sending Clash (is-clash s level sending breaking) in
     let t : Told (s .core .tx) (s .core .«collision_policy») (toSend s) level = clash-told _ _ _ _ (breaking-clash s level sending breaking) in
     let i : InOf bus.Tx (s .core) = in-state (s .core) (reached-whole s r .core) sending in
     let on : drives s ≡ true = is-high (drives s) _ (steady s r sending (t .left)) (t .released) in
-    let told = clashed-told x s c is (i .unyielded) (i .clear) in
+    let told = clashed-told s c (i .unyielded) (i .clear) in
     record { fell = t .fell; released = (on, ap (λ (u : DaliBitbangPhy). drives u) e ∙ told .1 ∙ on); watched = t .watches; told = rw e (told .0) }

@@ -3,9 +3,9 @@ use Prim.Native.Nat.{ℕ, _+_, _*_, _%_, _≤_, _<_, min}
 use native.Mathlib.Omega.{arith}
 use native.Mathlib.Decide.{decLt}
 use native.Mathlib.Nat.{not-suc-le-zero}
-use mathlib.Core.Bool.{Bool, true, false, not, _&&_, false≢true}
-use mathlib.Core.Path.{_≡_, refl, sym, ap, _∙_}
-use lib.Dec.{ltb, leb, eqb}
+use mathlib.Core.Bool.{Bool, true, false}
+use mathlib.Core.Path.{_≡_, refl, sym, subst, _∙_}
+use lib.Dec.{ltb, leb}
 use borrow.Author.Tests.{ltb-true, ltb-false}
 use Rattle.laws.specs.Pick.{pick}
 use Rattle.laws.proofs.Picked.{on-false, cases}
@@ -21,11 +21,12 @@ use Rattle.machine.specs.Runs.{runsCounted}
 use Rattle.machine.specs.BecomingIdle.{idled}
 use Rattle.fsm.specs.Rx.{sampled, highRun, finished, goesOn}
 use Rattle.machine.specs.Idle.{idleTick, entered, silent, fell}
-use Rattle.machine.specs.Sending.{Step, Arm, Yield, End, Clash, Hold, Drive, clashOf, txStep, armed, yielded, clashed, held, driven, afterStep, txTick}
+use Rattle.machine.specs.Sending.{Step, Arm, Yield, End, Clash, Hold, Drive, txStep, armed, yielded, clashed, held, driven, afterStep, txTick}
 use Rattle.machine.specs.Collision.{broke, collisionTick}
 use Rattle.station_theorems.specs.Invariants.{isReceiving}
 use Rattle.station_theorems.proofs.Cores.{AnyOf, InIdle, InRx, InTx, InBreak, In, Good, in-state}
 use Rattle.station_theorems.proofs.CoreSamples.{Sampled, sampled-keeps, runs-agree}
+use Rattle.station_theorems.proofs.Steps.{Why, why}
 
 -- ---- becoming Idle, and Idle's first low after it
 -- what becoming Idle asks for
@@ -66,32 +67,10 @@ heard-high c false = refl
 heard-low : (c : Core) (high : Bool) → high ≡ false → runsCounted c high .runs .«high_run_ticks» ≡ 0
 heard-low c high e = heard-high c high ∙ on-false e (min (c .runs .«high_run_ticks» + 1) 65535) 0
 
--- ---- only a low tick yields
-abbrev isYield : Step → Bool
-isYield Arm = false
-isYield Yield = true
-isYield End = false
-isYield Clash = false
-isYield Hold = false
-isYield (Drive out) = false
-
-not-yield : (x : Step) → isYield x ≡ false → x ≡ Yield → ⊥
-not-yield x other e = false≢true (sym other ∙ ap isYield e)
-
+-- only a low tick yields
 yields-low : (tx : Tx) (policy : CollisionPolicy) (hb : TxHb) (high : Bool) → txStep tx policy hb high ≡ Yield → high ≡ false
-unfolding txStep
-yields-low tx policy hb high =
-    let P : Step → Type 0 = λ (x : Step). x ≡ Yield → high ≡ false in
-    cases P (not (eqb (tx .«tx_armed») 0))
-    (λ _. cases P (not high && not (tx .«tx_answer»)) (λ low _. both-low high (tx .«tx_answer») low) (λ _ e. absurd (not-yield Arm refl e)))
-    (λ _. cases P (leb (hb .«tx_hb_len») (tx .«tx_hb_cnt»)) (λ _ e. absurd (not-yield End refl e))
-    (λ _. cases P (clashOf tx policy (hb .«tx_hb_len») high) (λ _ e. absurd (not-yield Clash refl e))
-    (λ _. cases P (not (eqb (tx .«tx_sp_cnt») 0)) (λ _ e. absurd (not-yield Hold refl e))
-    (λ _. cases P (leb 56 (tx .«tx_hb_cnt»)) (λ _ e. absurd (not-yield End refl e)) (λ _ e. absurd (not-yield (Drive _) refl e))))))
-  where
-    both-low : (high answer : Bool) → (not high && not answer) ≡ true → high ≡ false
-    both-low true answer e = absurd (false≢true e)
-    both-low false answer e = refl
+unfolding Why
+yields-low tx policy hb high e = subst (Why tx policy hb high) e (why tx policy hb high)
 
 -- ---- what a tick leaves of a core that has heard the level
 abbrev pub rxCore : Core → Bool → Core

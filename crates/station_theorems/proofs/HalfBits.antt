@@ -3,19 +3,17 @@ use Prim.Native.Nat.{ℕ, suc, _+_, _%_, _≤_, _<_}
 use native.Mathlib.Omega.{arith}
 use native.Mathlib.Decide.{decLt}
 use native.Mathlib.Nat.{zero-add}
-use mathlib.Core.Bool.{Bool, true, false, false≢true, not, _&&_}
+use mathlib.Core.Bool.{Bool, true, false, not}
 use mathlib.Core.List.{List}
 use mathlib.Core.Logic.{_⊎_, inl, inr, ⊎-elim}
 use mathlib.Core.Path.{_≡_, refl, sym, _∙_, ap}
 use lib.Dec.{eqb, leb}
-use borrow.Author.Tests.{eqb-true, eq-eqb, ne-eqb, leb-false, lt-leb}
+use borrow.Author.Tests.{eq-eqb, ne-eqb, lt-leb}
 use Rattle.laws.specs.Bit.{bit}
 use Rattle.laws.specs.Pick.{pick}
-use Rattle.laws.proofs.Picked.{on-true, on-false, cases}
-use Rattle.laws.proofs.Joined.{is}
+use Rattle.laws.proofs.Picked.{on-true, on-false}
 use Rattle.machine.specs.declared.BusState.the-variants as bus
 use Rattle.machine.specs.declared.CollisionPolicy.{CollisionPolicy}
-use Rattle.machine.specs.declared.Tx.{Tx}
 use Rattle.machine.specs.declared.TxHb.{TxHb}
 use Rattle.machine.specs.declared.Core.{Core}
 use Rattle.machine.specs.Runs.{runsCounted}
@@ -35,44 +33,21 @@ use Rattle.station_theorems.proofs.Walking.{all-any, walk}
 use Rattle.station_theorems.proofs.Clashes.{Told, clash-told, told-clash, is-high}
 use Rattle.station_theorems.proofs.Breaking.{tick-on}
 use Rattle.station_theorems.proofs.ByState.{tick-tx, tick-by, sending-not-breaking}
+use Rattle.station_theorems.proofs.Steps.{Drew, Why, why}
 
 -- ---- the tick that begins a half-bit
-isDrive : Step → Bool
-isDrive Arm = false
-isDrive Yield = false
-isDrive End = false
-isDrive Clash = false
-isDrive Hold = false
-isDrive (Drive out) = true
-
 no-more : (n : ℕ) → n ≡ n + 1 → ⊥
 no-more n e = omega (arith, e)
 
-counts-drive : (x : Step) (c : Core) → afterStep x c .tx .«tx_hb_cnt» ≡ c .tx .«tx_hb_cnt» + 1 → isDrive x ≡ true
-unfolding afterStep armed yielded clashed held driven idled idleTick silent fell pick isDrive
-counts-drive Arm c e = absurd (no-more _ e)
-counts-drive Yield c e = absurd (no-more _ e)
-counts-drive End c e = absurd (no-more _ e)
-counts-drive Clash c e = absurd (no-more _ e)
-counts-drive Hold c e = absurd (no-more _ e)
-counts-drive (Drive out) c e = refl
-
-record Drew (tx : Tx) (hb : TxHb) (x : Step) : Type 0 where
-  unarmed : tx .«tx_armed» ≡ 0
-  more : tx .«tx_hb_cnt» < hb .«tx_hb_len»
-  out : x ≡ Drive (releasesAt hb (tx .«tx_hb_cnt»))
-
-drew : (tx : Tx) (p : CollisionPolicy) (hb : TxHb) (high : Bool) → isDrive (txStep tx p hb high) ≡ true → Drew tx hb (txStep tx p hb high)
-unfolding txStep isDrive
-drew tx p hb high =
-    let P : Step → Type 0 = λ (x : Step). isDrive x ≡ true → Drew tx hb x in
-    cases P (not (eqb (tx .«tx_armed») 0))
-    (λ _. cases P (not high && not (tx .«tx_answer»)) (λ _ e. absurd (false≢true e)) (λ _ e. absurd (false≢true e)))
-    (λ un. cases P (leb (hb .«tx_hb_len») (tx .«tx_hb_cnt»)) (λ _ e. absurd (false≢true e))
-    (λ more. cases P (clashOf tx p (hb .«tx_hb_len») high) (λ _ e. absurd (false≢true e))
-    (λ _. cases P (not (eqb (tx .«tx_sp_cnt») 0)) (λ _ e. absurd (false≢true e))
-    (λ _. cases P (leb 56 (tx .«tx_hb_cnt»)) (λ _ e. absurd (false≢true e))
-    (λ _ _. record { unarmed = eqb-true _ _ (is _ un); more = leb-false _ _ more; out = refl })))))
+drew : (x : Step) (c : Core) (policy : CollisionPolicy) (hb : TxHb) (high : Bool) → afterStep x c .tx .«tx_hb_cnt» ≡ c .tx .«tx_hb_cnt» + 1
+    → Why (c .tx) policy hb high x → Drew (c .tx) hb x
+unfolding afterStep armed yielded clashed held driven idled idleTick silent fell pick Why
+drew Arm c policy hb high e w = absurd (no-more _ e)
+drew Yield c policy hb high e w = absurd (no-more _ e)
+drew End c policy hb high e w = absurd (no-more _ e)
+drew Clash c policy hb high e w = absurd (no-more _ e)
+drew Hold c policy hb high e w = absurd (no-more _ e)
+drew (Drive out) c policy hb high e w = w
 
 module _ (s : DaliBitbangPhy) (level : Bool) (b : Begins s level) where
   step : Step
@@ -85,8 +60,8 @@ module _ (s : DaliBitbangPhy) (level : Bool) (b : Begins s level) where
   is-drive : Drew (s .core .tx) (s .«tx_hb») step
   unfolding step runsCounted
   is-drive =
-      drew (s .core .tx) (s .core .«collision_policy») (s .«tx_hb») level
-      (counts-drive step (runsCounted (s .core) level) (sym (ap (λ (t : DaliBitbangPhy). begun t) ticked) ∙ b .one-more))
+      drew step (runsCounted (s .core) level) (s .core .«collision_policy») (s .«tx_hb») level
+      (sym (ap (λ (t : DaliBitbangPhy). begun t) ticked) ∙ b .one-more) (why (s .core .tx) (s .core .«collision_policy») (s .«tx_hb») level)
 
   pub begin-tick : tickOf s level ≡ withCore s (driven (runsCounted (s .core) level) (releasesAt (s .«tx_hb») (begun s)))
   unfolding afterStep

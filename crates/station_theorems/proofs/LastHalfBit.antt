@@ -1,20 +1,19 @@
 -- The last half-bit, and how a frame ends (specs/OverTicks, Tx). Assumes nothing.
-use Prim.Native.Nat.{_+_, _≤_, _<_}
+use Prim.Native.Nat.{_+_, _≤_}
 use native.Mathlib.Omega.{arith}
 use native.Mathlib.Nat.{not-suc-le-zero}
-use mathlib.Core.Bool.{Bool, false, not, _&&_}
+use mathlib.Core.Bool.{Bool, false, not}
 use mathlib.Core.List.{List}
-use mathlib.Core.Logic.{_⊎_, inl, inr}
+use mathlib.Core.Logic.{_⊎_, inl, inr, ⊎-elim}
 use mathlib.Core.Path.{_≡_, refl, sym, _∙_, ap}
-use lib.Dec.{eqb, leb}
-use borrow.Author.Tests.{eq-eqb, leb-true, leb-false, le-leb}
+use borrow.Author.Tests.{eq-eqb, le-leb}
 use Rattle.laws.specs.Pick.{pick}
-use Rattle.laws.proofs.Picked.{on-true, on-false, cases}
+use Rattle.laws.proofs.Picked.{on-true, on-false}
 use Rattle.machine.specs.declared.BusState.the-variants as bus
 use Rattle.machine.specs.Runs.{runsCounted}
 use Rattle.machine.specs.BecomingIdle.{idled}
 use Rattle.machine.specs.Idle.{idleTick, silent, fell}
-use Rattle.machine.specs.Sending.{Step, clashOf, txStep, armed, yielded, clashed, held, driven, afterStep, txTick}
+use Rattle.machine.specs.Sending.{Step, Arm, Yield, End, Clash, Hold, Drive, txStep, armed, yielded, clashed, held, driven, afterStep, txTick}
 use Rattle.fsm.specs.declared.DaliBitbangPhy.{DaliBitbangPhy}
 use Rattle.fsm.specs.declared.TxPollResult.the-variants.{Ok, Yielded}
 use Rattle.fsm.specs.Station.{withCore}
@@ -29,6 +28,7 @@ use Rattle.station_theorems.proofs.Stations.{reached-whole}
 use Rattle.station_theorems.proofs.Walking.{reached-all, all-any, walk}
 use Rattle.station_theorems.proofs.ByState.{tick-tx, tick-by, idle-not-breaking, idle-not-sending}
 use Rattle.station_theorems.proofs.HalfBits.{begin-tick, InHalf, half-begins, deaf-half, kept-half}
+use Rattle.station_theorems.proofs.Steps.{Why, why}
 
 -- ---- the last half-bit
 -- nothing but calls between follows
@@ -70,21 +70,17 @@ module _ (s : DaliBitbangPhy) (short : toSend s ≤ 54) (sending : IsSending s) 
   Ends : Step → Type 0
   Ends x = IsIdle (withCore s (afterStep x (runsCounted (s .core) level))) → (toSend s ≤ begun s) ⊎ (polled (withCore s (afterStep x (runsCounted (s .core) level))) .answer ≡ Yielded)
 
-  whole : Ends (txStep (s .core .tx) (s .core .«collision_policy») (s .«tx_hb») level)
-  unfolding Ends txStep afterStep armed yielded clashed held driven idled idleTick silent fell runsCounted polled pick
-  whole =
-      cases Ends (not (eqb (s .core .tx .«tx_armed») 0))
-      (λ _. cases Ends (not level && not (s .core .tx .«tx_answer»)) (λ _ _. inr refl) (λ _ e. absurd (idle-not-sending (sym e ∙ sending))))
-      (λ _. cases Ends (leb (toSend s) (begun s)) (λ all _. inl (leb-true _ _ all))
-      (λ more. cases Ends (clashOf (s .core .tx) (s .core .«collision_policy») (toSend s) level) (λ _ e. absurd (idle-not-breaking (sym e)))
-      (λ _. cases Ends (not (eqb (s .core .tx .«tx_sp_cnt») 0)) (λ _ e. absurd (idle-not-sending (sym e ∙ sending)))
-      (λ _. cases Ends (leb 56 (begun s)) (λ used _. absurd (room (leb-false _ _ more) (leb-true _ _ used))) (λ _ e. absurd (idle-not-sending (sym e ∙ sending)))))))
-    where
-      room : begun s < toSend s → 56 ≤ begun s → ⊥
-      room more used = omega (arith, short, more, used)
+  whole : (x : Step) → Why (s .core .tx) (s .core .«collision_policy») (s .«tx_hb») level x → Ends x
+  unfolding Ends Why afterStep armed yielded clashed held driven idled idleTick silent fell runsCounted polled pick
+  whole Arm w e = absurd (idle-not-sending (sym e ∙ sending))
+  whole Yield w e = inr refl
+  whole End w e = inl (⊎-elim (λ all. all) (λ used. absurd (let no : ⊥ = omega (arith, short, used .0, used .1) in no)) w)
+  whole Clash w e = absurd (idle-not-breaking (sym e))
+  whole Hold w e = absurd (idle-not-sending (sym e ∙ sending))
+  whole (Drive out) w e = absurd (idle-not-sending (sym e ∙ sending))
 
 pub sent-whole : SentWhole
 unfolding Ends
 sent-whole s r sending level idle =
     let e = tick-by s level sending _ refl in
-    rw e (whole s (reached-whole s r .loads) sending level (rw e at idle))
+    rw e (whole s (reached-whole s r .loads) sending level _ (why (s .core .tx) (s .core .«collision_policy») (s .«tx_hb») level) (rw e at idle))

@@ -1,4 +1,5 @@
 pub mod Cores
+pub mod Steps
 pub mod CoreSamples
 pub mod CoreTicks
 pub mod CoreCalls
