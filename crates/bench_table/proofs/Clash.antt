@@ -15,8 +15,8 @@ use Rattle.bench_line.specs.Line.{newLine}
 use Rattle.frames.specs.Sends.{by-start-tx}
 use Rattle.line_theorems.specs.OnLine.{bufferIn, Breaks}
 use Rattle.line_theorems.specs.TwoSenders.{Pair, bothOn, pullsIn, FirstDifference}
-use Rattle.line_theorems.proofs.TwoSenders.{clash-ticks}
-use Rattle.line_theorems.proofs.Shown.{new-all-idle, two-reached, is-16, watching}
+use Rattle.line_theorems.proofs.DifferentFrames.{clash-ticks}
+use Rattle.line_theorems.proofs.Senders.{new-all-idle, two-reached, is-16, watching}
 use Rattle.bench_table.specs.Table.{zeros, eighty}
 
 pair : Pair (newLine 2) zeros eighty

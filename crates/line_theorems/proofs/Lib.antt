@@ -9,6 +9,10 @@ pub mod Telling
 pub mod Agreeing
 pub mod LoneSender
 pub mod Clashing
-pub mod TwoSenders
+pub mod BothStarted
+pub mod EqualFrames
+pub mod DifferentFrames
 pub mod Retry
-pub mod Shown
+pub mod Senders
+pub mod NewLineShown
+pub mod OldLineShown

@@ -15,7 +15,8 @@ use Rattle.line_theorems.specs.Retry.{again, CanRetry, Retries, Retry}
 use Rattle.line_theorems.proofs.Hearing.{same-count}
 use Rattle.line_theorems.proofs.Asking.{count-kept, Settling, all-settle, settled-line}
 use Rattle.line_theorems.proofs.LoneSender.{lone-sender}
-use Rattle.line_theorems.proofs.TwoSenders.{same, Won, first-difference, who-won, clashed}
+use Rattle.line_theorems.proofs.BothStarted.{same}
+use Rattle.line_theorems.proofs.DifferentFrames.{Won, first-difference, who-won, clashed}
 
 counts-kept : (calls : List LineCall) (l : BenchLine) → lineAfterAll calls l .count ≡ l .count
 unfolding lineAfterAll
