@@ -18,7 +18,7 @@ use Rattle.fsm.specs.Polling.{polled}
 use Rattle.fsm.specs.Calls.{withPolicy, tookIdle, hasEvent, acknowledged, tookRx}
 use Rattle.station_theorems.specs.Calls.{Call, tick, start-tx, start-answer, poll, take-idle, take-rx, acknowledge, policy, after, afterAll, isBetween}
 use Rattle.station_theorems.specs.Ticks.{IsSending, drives, afterLevels, alone}
-use Rattle.station_theorems.proofs.Between.{Same, itself, then, between-same, tx-refused, answer-refused, refused-keeps}
+use Rattle.station_theorems.proofs.Between.{Same, itself, then, between-same, tx-refused, answer-refused, refused-keeps, by-kind}
 use Rattle.frames.specs.Hosts.{afterLevelsAmid, aloneAmid, Each, keepsTx, keepsRx, keepsCapture}
 use Rattle.frames.specs.Amid.{noCalls, NoCalls}
 
@@ -73,15 +73,11 @@ module _ (s : DaliBitbangPhy) where
 
   -- In Rx start_tx is refused.
   still-in-rx : s .core .bus .«bus_state» ≡ bus.Rx → (c : Call) → keepsRx c ≡ true → Same s (after c s)
-  unfolding after keepsRx isBetween isIdle
-  still-in-rx in-rx (tick high) b = absurd (false≢true b)
-  still-in-rx in-rx (start-tx hb) b = refused-keeps (Same s) s (startTx s hb) (tx-refused s hb (ap isIdle in-rx)) (itself s)
-  still-in-rx in-rx (start-answer hb) b = absurd (false≢true b)
-  still-in-rx in-rx poll b = between-same poll s refl
-  still-in-rx in-rx take-idle b = between-same take-idle s refl
-  still-in-rx in-rx take-rx b = between-same take-rx s refl
-  still-in-rx in-rx acknowledge b = between-same acknowledge s refl
-  still-in-rx in-rx (policy p) b = between-same (policy p) s refl
+  unfolding after keepsRx isIdle
+  still-in-rx in-rx =
+      by-kind (λ c. keepsRx c ≡ true → Same s (after c s)) (λ high b. absurd (false≢true b))
+      (λ hb _. refused-keeps (Same s) s (startTx s hb) (tx-refused s hb (ap isIdle in-rx)) (itself s)) (λ hb b. absurd (false≢true b))
+      (λ c between _ _. between-same c s between)
 
   -- In Tx both starts are refused.
   module _ (sending : IsSending s) (clear : Clear s) where
@@ -89,15 +85,12 @@ module _ (s : DaliBitbangPhy) where
     StillIn t = Same s t × Clear t
 
     still-in-tx : (c : Call) → keepsTx c ≡ true → StillIn (after c s)
-    unfolding after keepsTx isBetween isIdle hears
-    still-in-tx (tick high) b = absurd (false≢true b)
-    still-in-tx (start-tx hb) b = refused-keeps StillIn s (startTx s hb) (tx-refused s hb (ap isIdle sending)) (itself s, clear)
-    still-in-tx (start-answer hb) b = refused-keeps StillIn s (startAnswer s hb) (answer-refused s hb (ap hears sending)) (itself s, clear)
-    still-in-tx poll b = (between-same poll s refl, still-clear poll refl clear)
-    still-in-tx take-idle b = (between-same take-idle s refl, still-clear take-idle refl clear)
-    still-in-tx take-rx b = (between-same take-rx s refl, still-clear take-rx refl clear)
-    still-in-tx acknowledge b = (between-same acknowledge s refl, still-clear acknowledge refl clear)
-    still-in-tx (policy p) b = (between-same (policy p) s refl, still-clear (policy p) refl clear)
+    unfolding after keepsTx isIdle hears
+    still-in-tx =
+        by-kind (λ c. keepsTx c ≡ true → StillIn (after c s)) (λ high b. absurd (false≢true b))
+        (λ hb _. refused-keeps StillIn s (startTx s hb) (tx-refused s hb (ap isIdle sending)) (itself s, clear))
+        (λ hb _. refused-keeps StillIn s (startAnswer s hb) (answer-refused s hb (ap hears sending)) (itself s, clear))
+        (λ c between _ _. (between-same c s between, still-clear c between clear))
 
 -- ---- any list of them
 between : (c : Call) → keepsCapture c ≡ true → isBetween c ≡ true

@@ -2,7 +2,7 @@
 use Prim.Native.Nat.{ℕ, zero, suc, _≤_, _<_}
 use native.Mathlib.Omega.{arith}
 use native.Mathlib.Decide.{ℕ-discrete}
-use mathlib.Core.Bool.{Bool, true, false, false≢true, true≢false, not}
+use mathlib.Core.Bool.{Bool, true, false, false≢true, true≢false}
 use mathlib.Core.List.{List, [], _∷_}
 use mathlib.Core.Path.{_≡_, refl, sym, ap, _∙_}
 use lib.Dec.{eqb}
@@ -16,13 +16,10 @@ use Rattle.machine.specs.Starting.{loaded}
 use Rattle.fsm.specs.declared.DaliBitbangPhy.{DaliBitbangPhy}
 use Rattle.fsm.specs.declared.Started.{Started}
 use Rattle.fsm.specs.declared.StartAnswer.the-variants.{Busy}
-use Rattle.fsm.specs.declared.Polled.{Polled}
 use Rattle.fsm.specs.Station.{newCore, newStation}
 use Rattle.fsm.specs.Ticking.{tickOf}
 use Rattle.fsm.specs.Starting.{lengthFits, startedWith, loadedWith, started, startTx, startAnswer}
-use Rattle.machine.specs.States.{isIdle, hears, isTx}
-use Rattle.fsm.specs.Polling.{polled}
-use Rattle.fsm.specs.Calls.{withPolicy, tookIdle, hasEvent, acknowledged, tookRx}
+use Rattle.machine.specs.States.{isIdle, hears}
 use Rattle.station_theorems.specs.Calls as station
 use Rattle.station_theorems.specs.Calls.{Call, after, Reached}
 use Rattle.bench_line.specs.declared.BenchLine.{BenchLine}
@@ -35,6 +32,7 @@ use Rattle.bench_line.specs.Line.{stationsOn, isOn, stationAt, withStation, new
 use Rattle.bench_line.specs.Refusals.{isCount}
 use Rattle.bench_line.specs.Calls.{changedAt, startedAt, polledAt, tookIdleAt, tookRxAt}
 use Rattle.station_theorems.specs.Ticks.{drives}
+use Rattle.station_theorems.proofs.Between.{between-same, by-kind}
 use Rattle.line_theorems.specs.Reached.{LineCall, tick, start-tx, start-answer, poll, take-idle, take-rx, acknowledge, policy}
 use Rattle.line_theorems.specs.Reached.{lineAfter, new-line, called}
 use Rattle.line_theorems.specs.Lines.{LineHolds, LineInvariants}
@@ -58,29 +56,12 @@ module _ (s : DaliBitbangPhy) where
       let P : Started → Type 0 = λ (x : Started). drives (x .station) ≡ drives s in
       cases P allowed (λ _. cases P (lengthFits (hb .length)) (λ _. refl) (λ _. refl)) (λ _. refl)
 
-  poll-drives : drives (polled s .station) ≡ drives s
-  unfolding polled
-  poll-drives =
-      let P : Polled → Type 0 = λ (x : Polled). drives (x .station) ≡ drives s in
-      cases P (s .core .told .«tx_yielded») (λ _. refl)
-      (λ _. cases P (not (eqb (s .core .told .«tx_collision») 0)) (λ _. refl) (λ _. cases P (isTx (s .core .bus .«bus_state»)) (λ _. refl) (λ _. refl)))
-
-  acknowledge-drives : drives (acknowledged s) ≡ drives s
-  unfolding acknowledged
-  acknowledge-drives =
-      let P : DaliBitbangPhy → Type 0 = λ (t : DaliBitbangPhy). drives t ≡ drives s in
-      cases P (hasEvent s) (λ _. refl) (λ _. refl)
-
   drives-as-before : (c : Call) → isTick c ≡ false → drives (after c s) ≡ drives s
-  unfolding after startTx startAnswer tookIdle tookRx withPolicy
-  drives-as-before (station.tick high) e = absurd (true≢false e)
-  drives-as-before (station.start-tx hb) e = start-drives (isIdle (s .core .bus .«bus_state»)) hb false
-  drives-as-before (station.start-answer hb) e = start-drives (hears (s .core .bus .«bus_state»)) hb true
-  drives-as-before station.poll e = poll-drives
-  drives-as-before station.take-idle e = refl
-  drives-as-before station.take-rx e = acknowledge-drives
-  drives-as-before station.acknowledge e = acknowledge-drives
-  drives-as-before (station.policy p) e = refl
+  unfolding after startTx startAnswer
+  drives-as-before =
+      by-kind (λ c. isTick c ≡ false → drives (after c s) ≡ drives s) (λ high e. absurd (true≢false e))
+      (λ hb _. start-drives (isIdle (s .core .bus .«bus_state»)) hb false) (λ hb _. start-drives (hears (s .core .bus .«bus_state»)) hb true)
+      (λ c between _ _. ap (λ b. b .«driven_high») (between-same c s between .bus))
 
 -- ---- places that a tick reaches, and places that it does not
 ticked-length : (n : ℕ) (level : Bool) (ss : List DaliBitbangPhy) → length (allTicked n level ss) ≡ length ss
