@@ -2,6 +2,7 @@
 
 use crate::demands::demand::{Clash, Sent, DEMANDED_TICKS};
 use crate::demands::frame_lines::reading;
+use crate::demands::stated::StatedScript;
 use crate::fsm::{CollisionPolicy, RxState};
 use crate::protocol::command::{
     push_byte_string_field, push_hex_field, push_number_field, Capture, Command, MOST_TICKS,
@@ -9,6 +10,7 @@ use crate::protocol::command::{
 };
 use crate::protocol::levels::Levels;
 use crate::random::Random;
+use crate::runs::program::hex;
 use crate::rust::line::{BenchLine, MOST_STATIONS};
 use crate::rust::station::{Call, HalfBits, Start, HALF_BIT_BYTES};
 use crate::scripts::line_lines::brief_pull;
@@ -34,21 +36,6 @@ pub struct Figures {
 }
 
 impl Figures {
-    pub fn runs(&self) -> usize {
-        self.lone + self.pairs
-    }
-
-    pub fn add(&mut self, other: &Figures) {
-        self.lone += other.lone;
-        self.pairs += other.pairs;
-        self.equal_pairs += other.equal_pairs;
-        self.lines += other.lines;
-        self.ticks += other.ticks;
-        self.station_ticks += other.station_ticks;
-        self.debouncing += other.debouncing;
-        self.untaken += other.untaken;
-    }
-
     pub fn text(&self) -> String {
         format!(
             "{} lone senders and {} pairs, {} of them equal (with {} debouncing stations and {} captures not taken at the starts), \
@@ -75,42 +62,41 @@ struct Moment<'a> {
 
 /// The lines of a program that is new before the first of them. A run mostly begins on the line that the one before left.
 pub struct DemandLines {
-    pub script: Vec<u8>,
-    /// As many lines as the script has.
-    pub stated: Vec<u8>,
+    pub script: StatedScript,
     pub figures: Figures,
     /// Where the commands are tried while they are made.
     line: BenchLine,
 }
 
 impl DemandLines {
-    pub fn new() -> Self {
+    /// The figures of the lines before these go on.
+    pub fn new(figures: Figures) -> Self {
         Self {
-            script: Vec::new(),
-            stated: Vec::new(),
-            figures: Figures::default(),
+            script: StatedScript::default(),
+            figures,
             line: BenchLine::of_one(),
         }
     }
 
-    /// Gives what was sent.
-    pub fn push_lone(&mut self, random: &mut Random) -> Vec<Vec<u8>> {
+    pub fn push_lone(&mut self, random: &mut Random) {
         self.figures.lone += 1;
+        let first_line = self.script.lines;
         self.come_to_rest_with(1, random);
         let sender = self.station(random);
         self.set_policies(&[], random);
         let data = any_frame(random);
+        self.name(first_line, &[&data]);
         self.send(&Sent::of(&data), &[sender], random);
-        vec![data]
     }
 
-    /// Gives what was sent.
-    pub fn push_pair(&mut self, random: &mut Random) -> Vec<Vec<u8>> {
+    pub fn push_pair(&mut self, random: &mut Random) {
         self.figures.pairs += 1;
+        let first_line = self.script.lines;
         self.come_to_rest_with(2, random);
         let senders = self.two_stations(random);
         self.set_policies(&senders, random);
         let frames = any_pair(&[2, 3], random);
+        self.name(first_line, &[&frames[0], &frames[1]]);
         let [first, second] = frames.each_ref().map(|data| Sent::of(data));
         match Clash::of([first.half_bits, second.half_bits]) {
             None => {
@@ -119,7 +105,13 @@ impl DemandLines {
             }
             Some(clash) => self.clash(&clash, senders, random),
         }
-        frames.to_vec()
+    }
+
+    fn name(&mut self, first_line: usize, frames: &[&[u8]]) {
+        let sent: Vec<String> = frames.iter().map(|data| hex(data)).collect();
+        let number = self.figures.lone + self.figures.pairs;
+        let name = format!("run {number}, {}", sent.join(" against "));
+        self.script.parts.push((first_line, name));
     }
 
     fn count(&self) -> u8 {
@@ -155,10 +147,7 @@ impl DemandLines {
         self.figures.lines += 1;
         self.figures.ticks += command.ticks();
         self.figures.station_ticks += command.ticks() * self.line.stations().len();
-        command.write(&mut self.script);
-        self.script.push(b'\n');
-        self.stated.extend_from_slice(stated);
-        self.stated.push(b'\n');
+        self.script.push(command, stated);
     }
 
     /// Does it to the own line, and adds it.

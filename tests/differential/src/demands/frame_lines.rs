@@ -2,6 +2,7 @@
 
 use std::iter::{once, repeat_n};
 
+use crate::demands::stated::StatedScript;
 use crate::protocol::answer::push_half_bits;
 use crate::protocol::command::{
     push_byte_string_field, push_hex_field, push_number_field, Capture, Command, SAMPLES,
@@ -20,10 +21,7 @@ const SCORE_OF_0: u16 = 24;
 
 /// The lines of a station that is new before the first of them.
 pub struct FrameLines {
-    pub script: Vec<u8>,
-    pub stated: Vec<u8>,
-    pub lines: usize,
-    pub ticks: usize,
+    pub script: StatedScript,
     frames: usize,
     /// The samples of the last capture, and past its count what earlier ones left.
     samples: [u8; SAMPLES],
@@ -34,10 +32,7 @@ pub struct FrameLines {
 impl FrameLines {
     pub fn new() -> Self {
         Self {
-            script: Vec::new(),
-            stated: Vec::new(),
-            lines: 0,
-            ticks: 0,
+            script: StatedScript::default(),
             frames: 0,
             samples: [0; SAMPLES],
             high_run: 0,
@@ -62,27 +57,18 @@ impl FrameLines {
         self.hear(data, heard);
     }
 
-    fn push(&mut self, command: Command, answer: &[u8]) {
-        self.lines += 1;
-        self.ticks += command.ticks();
-        command.write(&mut self.script);
-        self.script.push(b'\n');
-        self.stated.extend_from_slice(answer);
-        self.stated.push(b'\n');
-    }
-
     fn push_ticks(&mut self, heard: Levels, driven: &Levels) {
         self.high_run = heard.high_ticks_at_end();
         let mut answer = b"d".to_vec();
         push_byte_string_field(&mut answer, driven.bytes());
-        self.push(Command::Ticks { levels: heard }, &answer);
+        self.script.push(&Command::Ticks { levels: heard }, &answer);
     }
 
     fn encode(&mut self, data: &[u8], turn: usize) {
         let frame = Frame::of(data, turn as u8);
         let mut answer = Vec::new();
         push_half_bits(&mut answer, &half_bits_of(data));
-        self.push(Command::Encode { frame }, &answer);
+        self.script.push(&Command::Encode { frame }, &answer);
     }
 
     /// Every tick hears the level that the tick before left.
@@ -94,9 +80,10 @@ impl FrameLines {
         let left = once(HIGH).chain(driven.iter());
         let heard = left.take(driven.ticks()).collect();
         let half_bits = half_bits_of(data);
-        self.push(Command::Call(Call::Start { start, half_bits }), b"ok");
+        self.script
+            .push(&Command::Call(Call::Start { start, half_bits }), b"ok");
         self.push_ticks(heard, &driven);
-        self.push(Command::Call(Call::Poll), b"ok");
+        self.script.push(&Command::Call(Call::Poll), b"ok");
     }
 
     fn hear(&mut self, data: &[u8], heard: Levels) {
@@ -109,7 +96,7 @@ impl FrameLines {
         push_number_field(&mut event, i32::from(capture.count));
         push_number_field(&mut event, pre_idle_ticks as i32);
         push_hex_field(&mut event, &capture.samples);
-        self.push(Command::Call(Call::TakeRx), &event);
+        self.script.push(&Command::Call(Call::TakeRx), &event);
         self.read(data, capture);
     }
 
@@ -128,11 +115,13 @@ impl FrameLines {
 
     fn read(&mut self, data: &[u8], capture: Capture) {
         let of_answer = capture.clone();
-        self.push(Command::Sniff { capture }, &reading(data));
+        self.script
+            .push(&Command::Sniff { capture }, &reading(data));
         if let [byte] = data {
             let mut answer = b"byte".to_vec();
             push_hex_field(&mut answer, &[*byte]);
-            self.push(Command::Backward { capture: of_answer }, &answer);
+            self.script
+                .push(&Command::Backward { capture: of_answer }, &answer);
         }
     }
 }

@@ -1,10 +1,8 @@
 //! Whole frames: every one of 8 and 16 bits and many of 24, each encoded, sent, heard and read.
 
-use std::sync::Arc;
 use std::vec::IntoIter;
 
 use crate::demands::frame_lines::FrameLines;
-use crate::protocol::answer::answers;
 use crate::random::Random;
 use crate::runs::compare::{Batch, Batches};
 use crate::runs::program::hex;
@@ -36,26 +34,16 @@ impl Iterator for Frames {
 
     fn next(&mut self) -> Option<Batch> {
         let mut made = FrameLines::new();
-        let mut parts = Vec::new();
         for data in self.left.by_ref().take(BATCH_FRAMES) {
             self.frames += 1;
-            let name = format!(
-                "frame {}, {} bits of {}",
-                self.frames,
-                8 * data.len(),
-                hex(&data)
-            );
-            parts.push((made.lines, name));
+            let bits = 8 * data.len();
+            let name = format!("frame {}, {bits} bits of {}", self.frames, hex(&data));
+            made.script.parts.push((made.script.lines, name));
             made.push_frame(&data);
         }
-        self.lines += made.lines;
-        self.ticks += made.ticks;
-        (made.lines > 0).then(|| Batch {
-            rust: answers(&made.script),
-            script: Arc::new(made.script),
-            stated: made.stated,
-            parts,
-        })
+        self.lines += made.script.lines;
+        self.ticks += made.script.ticks;
+        made.script.batch()
     }
 }
 
