@@ -1,7 +1,7 @@
 //! The Rust side of the differential runs: answers the call protocol and the bench reader's books over the
 //! unchanged Rust, makes scripts and books, and compares another program's answers with the Rust's.
 
-/// What the port is compared with: the unchanged files, what stands for the rest of their crate, and hosts for them.
+/// What the port is compared with: the unchanged files, shims for the rest of their crate, and hosts for them.
 mod rust {
     pub mod encoder;
     pub mod line;

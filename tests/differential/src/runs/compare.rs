@@ -1,4 +1,4 @@
-//! Another program's answers held to the Rust's, byte by byte, and the Rust's to what the documents state of them.
+//! Another program's answers held to the Rust's, byte by byte, and the Rust's to what the documents state.
 
 use std::io;
 use std::process::Stdio;
@@ -68,7 +68,7 @@ impl Batch {
         lines
     }
 
-    /// The frame or run, its commands up to the difference, and the two answers to the last of them, under these names.
+    /// The frame or run, its commands up to the difference, and the two answers to the last, under these names.
     fn tell(&self, seed: u64, difference: &Difference, names: [&str; 2]) {
         let lines = self.lines_up_to(difference);
         let last = lines.len() - 1;
@@ -118,7 +118,7 @@ fn text_of(lines: &[Vec<u8>]) -> Vec<u8> {
         .collect()
 }
 
-/// What writes the lines in a shell. In printf's format only letters, digits and spaces are left to stand for themselves.
+/// What writes the lines in a shell. In printf's format only letters, digits and spaces stand for themselves.
 fn printf_of(lines: &[Vec<u8>]) -> String {
     let mut format = String::new();
     for byte in text_of(lines) {

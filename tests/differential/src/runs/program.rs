@@ -33,7 +33,8 @@ impl Run {
         Self::start_cut(program, script, Vec::new(), expected, errors)
     }
 
-    /// The script is cut at these places, in their order: what comes after one is written only when the program has read what is before it.
+    /// The script is cut at these places, in their order: what comes after one is written only when the
+    /// program has read what is before it.
     pub fn start_cut(
         program: &str,
         script: Arc<Vec<u8>>,

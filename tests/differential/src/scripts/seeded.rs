@@ -101,7 +101,8 @@ impl Tally {
             .map(|(name, count)| format!("{name} {count}"))
             .collect();
         format!(
-            "{} lines, {commands} of them commands ({}), {} ticks of a station and {} of a line ({} by its stations)",
+            "{} lines, {commands} of them commands ({}), \
+             {} ticks of a station and {} of a line ({} by its stations)",
             commands + self.bad,
             by_name.join(", "),
             self.ticks,
