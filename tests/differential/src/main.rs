@@ -150,12 +150,9 @@ fn run(words: &[String]) -> Result<bool, String> {
         "reader" => quiet_on_closed_pipe(reader::answer_standard_input()),
         "book" => {
             let kind = options.named("--kind", books::books::Kind::named)?;
-            let seed = options.number("--seed")?;
-            written(&books::books::book(
-                seed,
-                kind,
-                options.positive("--lines")?,
-            ))
+            let lines = options.positive("--lines")?;
+            let book = books::books::book(options.number("--seed")?, kind, lines);
+            quiet_on_closed_pipe(io::stdout().lock().write_all(&book))
         }
         "books" => {
             let task = book_runs::Task {
@@ -227,10 +224,6 @@ fn write_lines(mut generator: Generator, lines: usize) -> io::Result<()> {
         line.clear();
     }
     output.flush()
-}
-
-fn written(text: &[u8]) -> Result<bool, String> {
-    quiet_on_closed_pipe(io::stdout().lock().write_all(text))
 }
 
 /// A reader that has seen enough is no fault.
