@@ -102,26 +102,26 @@ module _ {M : Type 1} {𝓤 : URA M} {H : Heap 𝓤} {A : Atoms 𝓤} where
     cites 𝓜 𝓡 γ fm {f} {r = r} e met = computing fm (cited 𝓤 H _ 𝓜 𝓡 γ f r e met)
 
   module _ {K : Type 0} {W : Given 𝓤 H A} {Γ : List (Item 𝓤)} {E : Env 𝓤 H} {C : Calls 𝓤 H} {Λ : Loops 𝓤 H} {q : Post 𝓤 H} where
-      -- a call by value: nothing is handed over, and the answer is known
-      pub calls-by : K → FmC 𝓤 H (W .laws) C → {f : Name} {xs : List Operand} {d : Place} {rest : Body} {vs : List Val} {D : Data 𝓤 H A} {y : D .row .Denot} → Answers C f vs D y → Opds K W Γ E xs vs
-          → (Good D y → Seq K W Γ (lands C Λ E d (D .val y) rest q)) → Seq K W Γ (runs C Λ E (seq (call f xs d) rest) q)
-      calls-by t fm {f} {xs} {d} {rest} {vs} {D} {y} ans os k = record {
-        prf =
-            via 𝓤 (evalOpds 𝓤 H E xs (λ us. C f us Then))
-            (os .go (λ us. C f us Then)
-            (via 𝓤 (sep 𝓤 (emp 𝓤) (⋆ 𝓤 H A Γ)) (emp∗ 𝓤 (⋆ 𝓤 H A Γ))
-            (via 𝓤 (sep 𝓤 (C f vs Told) (⋆ 𝓤 H A Γ)) (monoL 𝓤 (⋆ 𝓤 H A Γ) (ans .prf)) (fm f vs Told Then (⋆ 𝓤 H A Γ) after))))
-            (W .laws .⇛-intro _);
-      }
-        where
-          Told : Val → SProp 𝓤
-          Told v = H .⇛ (guard 𝓤 ((v ≡ D .val y) × Good D y) (emp 𝓤))
+    -- a call by value: nothing is handed over, and the answer is known
+    pub calls-by : K → FmC 𝓤 H (W .laws) C → {f : Name} {xs : List Operand} {d : Place} {rest : Body} {vs : List Val} {D : Data 𝓤 H A} {y : D .row .Denot} → Answers C f vs D y → Opds K W Γ E xs vs
+        → (Good D y → Seq K W Γ (lands C Λ E d (D .val y) rest q)) → Seq K W Γ (runs C Λ E (seq (call f xs d) rest) q)
+    calls-by t fm {f} {xs} {d} {rest} {vs} {D} {y} ans os k = record {
+      prf =
+          via 𝓤 (evalOpds 𝓤 H E xs (λ us. C f us Then))
+          (os .go (λ us. C f us Then)
+          (via 𝓤 (sep 𝓤 (emp 𝓤) (⋆ 𝓤 H A Γ)) (emp∗ 𝓤 (⋆ 𝓤 H A Γ))
+          (via 𝓤 (sep 𝓤 (C f vs Told) (⋆ 𝓤 H A Γ)) (monoL 𝓤 (⋆ 𝓤 H A Γ) (ans .prf)) (fm f vs Told Then (⋆ 𝓤 H A Γ) after))))
+          (W .laws .⇛-intro _);
+    }
+      where
+        Told : Val → SProp 𝓤
+        Told v = H .⇛ (guard 𝓤 ((v ≡ D .val y) × Good D y) (emp 𝓤))
 
-          Then : Val → SProp 𝓤
-          Then v = aim 𝓤 H (lands C Λ E d v rest q)
+        Then : Val → SProp 𝓤
+        Then v = aim 𝓤 H (lands C Λ E d v rest q)
 
-          known : (v : Val) → Seq K W (later (given ((v ≡ D .val y) × Good D y) (‵ ftrue)) ∷ Γ) (lands C Λ E d v rest q)
-          known v = await t tt $ learn t (λ g. drop t $ regoal t (λ u. lands C Λ E d u rest q) (g .0) refl $ k (g .1))
+        known : (v : Val) → Seq K W (later (given ((v ≡ D .val y) × Good D y) (‵ ftrue)) ∷ Γ) (lands C Λ E d v rest q)
+        known v = await t tt $ learn t (λ g. drop t $ regoal t (λ u. lands C Λ E d u rest q) (g .0) refl $ k (g .1))
 
-          after : (v : Val) → ent 𝓤 (sep 𝓤 (Told v) (⋆ 𝓤 H A Γ)) (Then v)
-          after v = via 𝓤 _ (push 𝓤 H A (later (given ((v ≡ D .val y) × Good D y) (‵ ftrue))) Γ) (known v .prf)
+        after : (v : Val) → ent 𝓤 (sep 𝓤 (Told v) (⋆ 𝓤 H A Γ)) (Then v)
+        after v = via 𝓤 _ (push 𝓤 H A (later (given ((v ≡ D .val y) × Good D y) (‵ ftrue))) Γ) (known v .prf)

@@ -116,6 +116,7 @@ follow sp (k ∷ ks) = onward (fieldOf (sp .0) k) (λ p. follow (p .0, sp .1, sp
 abbrev pub fields : List ℕ → List PStep
 fields [] = []
 fields (k ∷ ks) = field k ∷ fields ks
+
 pub followed : {M : Type 1} {𝓤 : URA M} {H : Heap 𝓤} {A : Atoms 𝓤} {K : Type 0} {W : Given 𝓤 H A} → K → {Γ : List (Item 𝓤)} {E : Env 𝓤 H} (ks : List ℕ) (sp sp′ : Ty × ℕ × ℕ) → follow sp ks ≡ some sp′ → Walks K W Γ E sp (fields ks) sp′
 followed {𝓤 = 𝓤} {H = H} {K = K} {W = W} t {Γ} {E} [] sp sp′ e = subst (λ (z : Spot 𝓤 H). Walks K W Γ E sp [] z) (ap (orElse sp) e) (stop t)
 followed {𝓤 = 𝓤} {H = H} {K = K} {W = W} t {Γ} {E} (k ∷ ks) sp sp′ e = further (λ p. followed t ks (p .0, sp .1, sp .2 + p .1) sp′) (fieldOf (sp .0) k) refl e

@@ -51,9 +51,11 @@ returns : tie.Need-returns
 returns c =
     let wrote = c .before .before in
     let pre = start wrote .pre in
-    let fed = feed wrote .feed .ensures in
-    (refl, breaks-off _ _ (pre .1 .0) (pre .1 .1 .1) _ (omega arith) (fed .0) (fed .1 .0) (fed .1 .1) (text wrote .bytes-in .ensures)
-    (wrote .write-text .ensures) (not-true _ (c .before .if1 .taken)) (c .say-not-written .ensures))
+    let fed = feed wrote .feed .ensures in (
+      refl,
+      breaks-off _ _ (pre .1 .0) (pre .1 .1 .1) _ (omega arith) (fed .0) (fed .1 .0) (fed .1 .1) (text wrote .bytes-in .ensures)
+          (wrote .write-text .ensures) (not-true _ (c .before .if1 .taken)) (c .say-not-written .ensures),
+    )
 
 is-over-requires : tie.Need-is-over-requires
 is-over-requires c κs = search needs
@@ -62,17 +64,21 @@ returns-2 : tie.Need-returns-2
 returns-2 c =
     let wrote = c .before .before .before in
     let pre = start wrote .pre in
-    let fed = feed wrote .feed .ensures in
-    (refl, is-over _ _ (pre .1 .0) (pre .1 .1 .1) _ (omega arith) (fed .0) (fed .1 .0) (fed .1 .1) (text wrote .bytes-in .ensures)
-    (wrote .write-text .ensures) (not-false _ (c .before .before .if1 .left)) (sym (c .before .is-over .ensures) ∙ c .if2 .taken))
+    let fed = feed wrote .feed .ensures in (
+      refl,
+      is-over _ _ (pre .1 .0) (pre .1 .1 .1) _ (omega arith) (fed .0) (fed .1 .0) (fed .1 .1) (text wrote .bytes-in .ensures)
+          (wrote .write-text .ensures) (not-false _ (c .before .before .if1 .left)) (sym (c .before .is-over .ensures) ∙ c .if2 .taken),
+    )
 
 returns-3 : tie.Need-returns-3
 returns-3 c =
     let wrote = c .before .before .before in
     let pre = start wrote .pre in
-    let fed = feed wrote .feed .ensures in
-    (refl, goes-on _ _ (pre .1 .0) (pre .1 .1 .1) _ (omega arith) (fed .0) (fed .1 .0) (fed .1 .1) (text wrote .bytes-in .ensures)
-    (wrote .write-text .ensures) (not-false _ (c .before .before .if1 .left)) (sym (c .before .is-over .ensures) ∙ c .if2 .left))
+    let fed = feed wrote .feed .ensures in (
+      refl,
+      goes-on _ _ (pre .1 .0) (pre .1 .1 .1) _ (omega arith) (fed .0) (fed .1 .0) (fed .1 .1) (text wrote .bytes-in .ensures)
+          (wrote .write-text .ensures) (not-false _ (c .before .before .if1 .left)) (sym (c .before .is-over .ensures) ∙ c .if2 .left),
+    )
 
 pub take-in-spec : {M : Type 1} → statement M
 take-in-spec =

@@ -79,8 +79,7 @@ loop-again : tie.Need-loop-again Inv-loop μ-loop
 loop-again c =
     let head = c .before .before in
     let samples = head .before .before .before .args .ev .samples in
-    let grown = byte-≤ (head .loop .runs) (getD samples (head .loop .i) 0) in
-    (
+    let grown = byte-≤ (head .loop .runs) (getD samples (head .loop .i) 0) in (
       omega arith,
       omega arith,
       rw (c .after-byte .ensures) (omega (arith, grown)),

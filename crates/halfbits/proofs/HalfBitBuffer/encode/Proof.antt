@@ -47,8 +47,7 @@ returns-2 c =
     let put = c .before .before in
     let many = counts (tested put) in
     let store = stored-alone _ _ _ _ _ _ many (put .before .before .half-bits .ensures) (put .put-store .ensures) in
-    let a = tested put .before .before .args in
-    (
+    let a = tested put .before .before .args in (
       simp (store, c .length-of .ensures, on-true many, on-true refl, as-many (a .first) (a .second) (a .third) (a .bits) many),
       simp (on-true many, on-true refl),
     )
