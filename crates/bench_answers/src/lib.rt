@@ -1,5 +1,7 @@
 // Writes the answer lines of document 01, "The bench reader", into a lent buffer from a place on. Each function answers the place past its line. If
 // there is no room for the longest line of its kind, it writes nothing.
+#![tactic(auto)]
+
 ghost use Rattle.std.specs.Prelude.{◌≡◌, ◌+◌, ◌≤◌};
 ghost use Rattle.text.specs.Writing.{place_after, buffer_after};
 ghost use Rattle.bench_answers.specs.Constants.{public_constants};

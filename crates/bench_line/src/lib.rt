@@ -1,4 +1,6 @@
 // The bench line: one to four stations on one line, numbered from 0. On each tick all stations sample the level that the tick before left.
+#![tactic(auto)]
+
 ghost use Rattle.std.specs.Prelude.{◌≡◌, ◌≤◌, get_or, set};
 ghost use Rattle.laws.specs.Pick.{pick};
 ghost use Rattle.fsm.specs.Station.{new_station};

@@ -1,6 +1,8 @@
 // The bench reader: it reads a book from standard input and writes one answer for each line to standard output. `book` makes the answers; here bytes
 // are only moved. The program promises (specs/Run.antt) that it feeds what each read brings, whole, once and in order; that it writes what the reader
 // says of it; that the reader of the whole input answers the end of the input; and that it says on standard error what it could not do.
+#![tactic(auto)]
+
 ghost use Rattle.std.specs.Prelude.{◌≡◌, ◌+◌, ◌<◌, length};
 ghost use Rattle.book.specs.Reader.{bytes_in};
 ghost use Rattle.stdio.specs.Marks.{Came, Complained, Within};

@@ -1,4 +1,6 @@
 // Reads a capture of the book once: its decode, its longest low run, and the steps of its search.
+#![tactic(auto)]
+
 ghost use Rattle.std.specs.Prelude.{◌≡◌};
 ghost use Rattle.bench_reading.specs.Reading.{reading_of, is_decoded};
 ghost use Rattle.bench_reading.specs.Code.{held_event};

@@ -1,5 +1,7 @@
 // The rows of document 01, "Bench table", that are to be run. The program prints each with what the proved calls return, and the gate compares that
 // with the file stdout. All rows are proved too, these included (specs/Table.antt).
+#![tactic(auto)]
+
 use bench_line::{BenchLine, LineTold};
 use event::RxCompletedEvent;
 use fsm::{BusState, DaliBitbangPhy};

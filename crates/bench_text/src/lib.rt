@@ -1,5 +1,7 @@
 // Reads a line of the book (document 01, "The bench reader"), given without its LF. A line that breaks rules is refused by the first one that it
 // breaks, in the order of specs/Rules.antt.
+#![tactic(auto)]
+
 ghost use Rattle.std.specs.Prelude.{◌≡◌};
 ghost use Rattle.bench_text.specs.Constants.{public_constants};
 ghost use Rattle.bench_text.specs.Rules.{refusal_number, book_line_answer_number, refusal_in};

@@ -1,5 +1,7 @@
 // The heart of the bench reader (document 01, "The bench reader"). The caller feeds it a book in chunks of any size, and it writes the answers into a
 // lent buffer. It makes no difference where the book is cut into chunks.
+#![tactic(auto)]
+
 ghost use Rattle.std.specs.Prelude.{◌≡◌, ◌+◌, ◌*◌, ◌≤◌, ◌<◌, length, take as first};
 ghost use Rattle.bench_answers.specs.Answer.{row_max};
 ghost use Rattle.bench_text.specs.declared.BookLineAnswer.TheVariants.{Good, Refused};

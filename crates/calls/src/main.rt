@@ -1,5 +1,7 @@
 // The call protocol of document 04 over the proved functions: one command a line on standard input, one answer a line on standard output. Only safety
 // is proved of this program. Here bytes are only moved: `operands` reads a line, `commands` answers it, and `reply` writes the answer.
+#![tactic(auto)]
+
 mod commands;
 mod operands;
 mod reply;

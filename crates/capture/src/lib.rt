@@ -1,4 +1,6 @@
 // The 64 sample bytes of a capture (document 01, "Machine", Rx), kept in eight words.
+#![tactic(auto)]
+
 ghost use Rattle.std.specs.Prelude.{◌≡◌, get_or, replicate};
 ghost use Rattle.capture.specs.Samples.{words_of, byte_in, bytes_of, samples_of, with_byte};
 ghost use Rattle.capture.specs.Code.{word_with};

@@ -1,5 +1,7 @@
 // Document 01's thin form of the tick for an interrupt host, which lends its station. The by-value tick does the work here. `in_place` has the form
 // that changes the station where it lies, and both promise the same.
+#![tactic(auto)]
+
 ghost use Rattle.std.specs.Prelude.{◌≡◌};
 ghost use Rattle.fsm.specs.Ticking.{ticked};
 

@@ -1,5 +1,7 @@
 // The event of a capture, from source document 000 (fsm.rs). A station hands it out, and the readings read it. `IsrDecode` is source document 001's
 // (manchester.rs).
+#![tactic(auto)]
+
 ghost use Rattle.std.specs.Prelude.{◌≡◌};
 ghost use Rattle.event.specs.Constants.{public_constants};
 ghost use Rattle.event.specs.Event.{event_of, new_event};

@@ -1,4 +1,6 @@
 // Two stations on one wire: one sends sixteen bits, the other hears and reads them. The README shows `main`.
+#![tactic(auto)]
+
 use fsm::{DaliBitbangPhy, Polled, StartAnswer, Started, TxPollResult};
 use halfbits::HalfBitBuffer;
 use libc::STDOUT_FILENO;

@@ -1,4 +1,6 @@
 // The station of source document 000 (fsm.rs): its captures, its tick and every other call. A station goes in and comes back by value.
+#![tactic(auto)]
+
 ghost use Rattle.std.specs.Prelude.{◌≡◌, not, ◌+◌, ◌-◌, ◌*◌, ◌%◌, min, eqb};
 ghost use Rattle.laws.specs.Bit.{bit};
 ghost use Rattle.capture.specs.Samples.{with_byte};

@@ -1,5 +1,7 @@
 // The half-bits of a frame (document 01, "The wave"), and the encoder that makes them. Each bit of the store is a half-bit, from the top bit of the
 // first byte down. A 1 pulls the line low.
+#![tactic(auto)]
+
 ghost use Rattle.std.specs.Prelude.{◌≡◌, true, ◌++◌, ◌-◌, ◌*◌, ◌/◌, ◌%◌, ◌≤◌, leb, length, drop};
 ghost use Rattle.laws.specs.Tabulate.{tabulate};
 ghost use Rattle.halfbits.specs.Constants.{public_constants};

@@ -1,4 +1,6 @@
 // The tick that firmware calls from an interrupt. It is lent a station and changes it where it lies.
+#![tactic(auto)]
+
 ghost use Rattle.std.specs.Prelude.{◌≡◌};
 ghost use Rattle.fsm.specs.Ticking.{ticked};
 

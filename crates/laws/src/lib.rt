@@ -1,1 +1,2 @@
 // Definitions and laws that several crates share. This crate has no code.
+#![tactic(auto)]

@@ -1,5 +1,7 @@
 // Makes lines of bytes that come in chunks of any size. `Lines` holds the unfinished line, the one whose LF has not come yet. `take` adds to it from
 // a chunk, one line at a time. It makes no difference where the input is cut into chunks.
+#![tactic(auto)]
+
 ghost use Rattle.std.specs.Prelude.{◌≡◌, ◌+◌, ◌-◌, ◌≤◌, min, length, take as first};
 ghost use Rattle.std.proofs.lemmas.List.Edits.{sets};
 ghost use Rattle.lines.specs.Constants.{public_constants};

@@ -1,5 +1,7 @@
 // The part of source document 000's machine (fsm.rs) that touches no capture: what each tick does first, Idle, Tx, Collision, becoming Idle, and
 // starts. Rx writes captures, so `fsm` has it.
+#![tactic(auto)]
+
 ghost use Rattle.std.specs.Prelude.{◌≡◌, ◌+◌, ◌-◌, ◌%◌, ◌<◌, min};
 ghost use Rattle.machine.specs.Constants.{public_constants};
 ghost use Rattle.machine.specs.Numbers.{bus_state_number, rx_state_number, collision_policy_number};

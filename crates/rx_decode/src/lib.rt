@@ -1,4 +1,6 @@
 // The readings of an event, from source document 003 (rx_decode.rs).
+#![tactic(auto)]
+
 ghost use Rattle.std.specs.Prelude.{◌≡◌, ◌≤◌};
 ghost use Rattle.rx_decode.specs.Reading.{byte_of, frame_of, sniffed_of, searched_in, found_in, byte_in, low_run_of, held_of};
 ghost use Rattle.rx_decode.specs.Kinds.{SaysFrame, SaysByte};

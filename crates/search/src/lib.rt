@@ -1,4 +1,6 @@
 // The search for the best phase, from source document 001 (manchester.rs).
+#![tactic(auto)]
+
 ghost use Rattle.std.specs.Prelude.{◌≡◌, ◌≤◌, ◌<◌, nat_abs};
 ghost use Rattle.search.specs.Search.{scan_phase, higher_of, better_of, kept_better, accepted_of, new_of, first_of, ended_of, scanned_of, step_of, first_done, run_of};
 ghost use Rattle.search.specs.Answers.{SaysAnswer, SaysStep};

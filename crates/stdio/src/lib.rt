@@ -1,6 +1,8 @@
 // Standard input, standard output and standard error. No promise can say what a file holds. So each call hands out a mark, which no proof can make by
 // itself: `Came` of what a read reported, `Went` of a text to be written, `Complained` of a message. A program that promises something of its input
 // and output can keep the promise only by making these calls.
+#![tactic(auto)]
+
 ghost use Rattle.std.specs.Prelude.{◌≡◌, length};
 ghost use Rattle.stdio.specs.Marks.{Came, Went, Complained, Within};
 

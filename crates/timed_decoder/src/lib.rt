@@ -1,4 +1,6 @@
 // Calls of the decoder for the clock in timing/. Each answers one number, which the clock compares with the Rust's.
+#![tactic(auto)]
+
 ghost use Rattle.std.specs.Prelude.{◌≡◌};
 ghost use Rattle.window.specs.Window.{window_of};
 ghost use Rattle.window.specs.Phase.{phase_of};

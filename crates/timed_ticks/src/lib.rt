@@ -1,5 +1,7 @@
 // Calls of the station's tick for the clock in timing/. One call ticks over the same levels again and again and answers one number, which the clock
 // compares with the Rust's.
+#![tactic(auto)]
+
 ghost use Rattle.std.specs.Prelude.{◌≡◌, ◌+◌, ◌≤◌, ◌<◌, get_or};
 ghost use Rattle.laws.specs.Bit.{bit};
 ghost use Rattle.fsm.specs.Station.{new_station};

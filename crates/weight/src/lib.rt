@@ -1,4 +1,6 @@
 // The weight of eight ticks, from source document 001 (manchester.rs).
+#![tactic(auto)]
+
 ghost use Rattle.std.specs.Prelude.{◌≡◌, ◌<◌};
 ghost use Rattle.std.specs.Int.Signed.{mag};
 ghost use Rattle.weight.specs.Weight.{bit_weight, half_weight, weight_of};

@@ -1,4 +1,6 @@
 // The window over a capture's samples, and what one phase reads in it. From source document 001 (manchester.rs).
+#![tactic(auto)]
+
 ghost use Rattle.std.specs.Prelude.{◌≡◌, min, max, ◌+◌, ◌-◌, ◌^◌, ◌≤◌, ◌<◌, ltb};
 ghost use Rattle.std.proofs.Math.IntN.{sub_ℕ};
 ghost use Rattle.laws.specs.Pick.{pick};

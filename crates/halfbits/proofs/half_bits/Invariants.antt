@@ -1,0 +1,13 @@
+-- `half_bits` meets its contract. The loop's invariant: the number is that of the half-bits of the start and of the bits so far.
+use borrow.Author.Rules.{rules}
+use mathlib.Core.Path.{◌≡◌, refl}
+use Prim.Native.Nat.{◌-◌, ◌≤◌}
+use native.Mathlib.Omega.{arith}
+use Rattle.halfbits.proofs.Halves.{begun, start, turn, small, ended}
+use Rattle.halfbits.proofs.half_bits.Given as goal
+
+abbrev pub invariant-loop-at : goal.invariant-loop-at
+invariant-loop-at l = (l.at ≤ l.bits) × (l.all ≡ begun l.bits l.bytes l.at)
+
+abbrev pub decreases-loop-at : goal.decreases-loop-at
+decreases-loop-at l = l.bits - l.at

@@ -1,0 +1,6 @@
+pub mod Below
+pub mod Digits
+pub mod Only
+pub mod Picked
+pub mod Joined
+pub mod Tabulated

@@ -1,0 +1,4 @@
+pub mod Bit
+pub mod Packed
+pub mod Pick
+pub mod Tabulate

@@ -1,0 +1,19 @@
+-- `text::decimals::put_digits` meets its contract. Assumes nothing.
+use mathlib.Core.Path.{◌≡◌, refl}
+use Prim.Native.Nat.{◌+◌, ◌≤◌}
+use native.Mathlib.Omega.{arith}
+use lib.ListN.{length, length-set}
+use lib.Seq.{sets}
+use Rattle.text.specs.Code.{digits}
+use Rattle.text.proofs.WritingLaws.{enough, too_little, unwritten, written, put_of}
+use Rattle.text.proofs.Digits.{stored_on, stored_end}
+use Rattle.text.proofs.DecimalDigits.{last_digits, length_digits}
+use borrow.Author.Rules.{rules}
+use Rattle.text.proofs.decimals.put_digits.Given as goal
+
+abbrev pub invariant-loop-i : goal.invariant-loop-i
+invariant-loop-i l =
+    (l.at + l.count ≤ length l.initial.out) × (l.i ≤ l.count) × (length l.out ≡ length l.initial.out) × (sets l.out l.at (digits l.i l.rest) ≡ sets l.initial.out l.at (digits l.count l.number))
+
+abbrev pub decreases-loop-i : goal.decreases-loop-i
+decreases-loop-i l = l.i

@@ -1,0 +1,18 @@
+-- `text::hex::fill` meets its contract. Assumes nothing.
+use mathlib.Core.Path.{◌≡◌}
+use mathlib.Core.Bool.{true}
+use mathlib.Core.List.{List, ◌++◌}
+use Prim.Native.Nat.{ℕ, ◌+◌, ◌*◌, ◌-◌, ◌≤◌, ◌<◌}
+use native.Mathlib.Omega.{arith}
+use lib.ListN.{length, take, drop, length-set}
+use Rattle.text.specs.Hex.{all_hex, bytes_of}
+use Rattle.text.proofs.HexLaws.{bytes_on, top_small, low_small, still_hex, all_spelled}
+use borrow.Author.Rules.{rules}
+use Rattle.text.proofs.hex.fill.Given as goal
+
+abbrev pub invariant-loop-i : goal.invariant-loop-i
+invariant-loop-i l =
+    (l.i ≤ length l.initial.bytes) × (length l.bytes ≡ length l.initial.bytes) × (take l.i l.bytes ++ bytes_of (drop (2 * l.i) l.field) ≡ bytes_of l.field) × (all_hex (drop (2 * l.i) l.field) ≡ true)
+
+abbrev pub decreases-loop-i : goal.decreases-loop-i
+decreases-loop-i l = length l.initial.bytes - l.i

@@ -1,0 +1,19 @@
+-- `text::hex::put_hex_digits` meets its contract. Assumes nothing.
+use mathlib.Core.Path.{◌≡◌, refl}
+use Prim.Native.Nat.{◌+◌, ◌≤◌}
+use native.Mathlib.Omega.{arith}
+use lib.ListN.{length, length-set}
+use lib.Seq.{sets}
+use Rattle.text.specs.Hex.{hex_digits_of}
+use Rattle.text.proofs.WritingLaws.{enough, too_little, unwritten, written}
+use Rattle.text.proofs.Digits.{stored_on, stored_end}
+use Rattle.text.proofs.HexLaws.{last_hexes, length_hex_digits}
+use borrow.Author.Rules.{rules}
+use Rattle.text.proofs.hex.put_hex_digits.Given as goal
+
+abbrev pub invariant-loop-i : goal.invariant-loop-i
+invariant-loop-i l =
+    (l.at + l.width ≤ length l.initial.out) × (l.i ≤ l.width) × (length l.out ≡ length l.initial.out) × (sets l.out l.at (hex_digits_of l.i l.rest) ≡ sets l.initial.out l.at (hex_digits_of l.width l.number))
+
+abbrev pub decreases-loop-i : goal.decreases-loop-i
+decreases-loop-i l = l.i

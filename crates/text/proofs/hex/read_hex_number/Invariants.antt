@@ -1,0 +1,17 @@
+-- `text::hex::read_hex_number` meets its contract. Assumes nothing.
+use Prim.Native.Nat.{ℕ, ◌-◌, ◌^◌, ◌≤◌, ◌<◌}
+use native.Mathlib.Omega.{arith}
+use mathlib.Core.List.{List}
+use mathlib.Core.Path.{◌≡◌, refl, sym, ◌∙◌}
+use lib.ListN.{drop}
+use Rattle.text.specs.Hex.{all_hex, hex_value_from}
+use Rattle.text.proofs.Digits.{value_on, value_end}
+use Rattle.text.proofs.HexLaws.{hexes, hex_bad, hex_good, hex_end, hex_wide, hex_other, hex_odd, hex_number, hexes_below, fifteen}
+use borrow.Author.Rules.{rules}
+use Rattle.text.proofs.hex.read_hex_number.Given as goal
+
+abbrev pub invariant-loop-i : goal.invariant-loop-i
+invariant-loop-i l = (l.i ≤ l.width) × (l.number < 16 ^ l.i) × (hex_value_from l.number (drop l.i l.field) ≡ hex_value_from 0 l.field) × (all_hex (drop l.i l.field) ≡ all_hex l.field)
+
+abbrev pub decreases-loop-i : goal.decreases-loop-i
+decreases-loop-i l = l.width - l.i
