@@ -81,7 +81,7 @@ module _ (P : PhaseDecode → Type 0) where
   of_phases : (m : BitLengths) (w : SampleWindow) (best : Found) (phases : List ℤ) → Kept best → ((phase : ℤ) → Memᴰ phase phases → P (phase_of w 32 phase)) → Kept (best_of m w best phases)
   unfolding best_of
   of_phases m w best [] k all = k
-  of_phases m w best (phase ∷ phases) k all = of_phases m w _ phases (of_kept m best _ k (all phase (Memᴰ.head refl))) (λ p h. all p (Memᴰ.tail h))
+  of_phases m w best (phase ∷ phases) k all = of_phases m w (kept_better best (phase_of w 32 phase) m) phases (of_kept m best _ k (all phase (Memᴰ.head refl))) (λ p h. all p (Memᴰ.tail h))
 
   of_end : (s : BestPhaseSearch) (w : SampleWindow) → Kept s.best → P (phase_of w 32 (pos 0)) → Scanned w → Kept (ends_with s w)
   unfolding ends_with
