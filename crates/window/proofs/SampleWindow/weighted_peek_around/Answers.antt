@@ -1,5 +1,4 @@
 -- `SampleWindow::weighted_peek_around` meets its contract. Assumes nothing.
-use borrow.Author.Rules.{rules}
 use mathlib.Core.Path.{◌≡◌, sym, ◌∙◌, ap}
 use Prim.Native.Nat.{ℕ, ◌+◌, ◌-◌, ◌≤◌, max}
 use native.Mathlib.Omega.{arith}
@@ -13,8 +12,7 @@ use Rattle.window.specs.Window.{window_with, peek_at}
 use Rattle.window.specs.Phase.{peek_of, weight_around, stride_around, stride_of}
 use Rattle.window.specs.Code.{peeks_of, stop_of, around_of}
 use Rattle.window.proofs.Peeks.{moved}
-use Rattle.window.proofs.SampleWindow.weighted_peek_around.Statement.{statement}
-use Rattle.window.proofs.SampleWindow.weighted_peek_around.Tie as tie
+use Rattle.window.proofs.SampleWindow.weighted_peek_around.Goals as goal
 
 abbrev made : ℕ → ℕ → PeekStop → PeekAround
 made weight stride stop = record { weightmax = weight; pmax = stride; stop = stop }
@@ -42,55 +40,13 @@ put w p b h ep ec ee el em en ek estop =
       at_phase w (p + 1) b (p + b + 1) (omega arith),
     )
 
-add_peeks_around : tie.Need-overflow-add-peeks-around
-add_peeks_around c = search rules
-
-peeks_around_requires : tie.Need-peeks-around-requires
-peeks_around_requires c κs = search rules
-
-sample_weight_requires : tie.Need-sample-weight-requires
-sample_weight_requires c κs = search rules
-
-sample_weight_requires_2 : tie.Need-sample-weight-requires-2
-sample_weight_requires_2 c κs = search rules
-
-sample_weight_requires_3 : tie.Need-sample-weight-requires-3
-sample_weight_requires_3 c κs = search rules
-
-larger_requires : tie.Need-larger-requires
-larger_requires c κs = search rules
-
-larger_requires_2 : tie.Need-larger-requires-2
-larger_requires_2 c κs = search rules
-
-stride_requires : tie.Need-stride-requires
-stride_requires c κs = search rules
-
-stop_of_requires : tie.Need-stop-of-requires
-stop_of_requires c κs = search rules
-
-returns : tie.Need-returns
+pub returns : goal.returns
 returns c =
     let compared = c.before.before.before in
     let weighed = compared.before in
     let peeked = weighed.before.before.before in
     let start = peeked.before in
     let a = start.args in
-    put (window_with a.bytes.now a.len a.bits) _ _ start.requires.0 peeked.peeks-around.ensures
-    weighed.before.before.sample_weight.ensures weighed.before.sample-weight2.ensures weighed.sample-weight3.ensures
-    compared.larger.ensures c.before.before.larger2.ensures c.before.stride.ensures c.stop-of.ensures
-
-pub weighted_peek_around_spec : {M : Type 1} → statement M
-weighted_peek_around_spec =
-    tie.close
-    (tie.spec
-    add_peeks_around
-    peeks_around_requires
-    sample_weight_requires
-    sample_weight_requires_2
-    sample_weight_requires_3
-    larger_requires
-    larger_requires_2
-    stride_requires
-    stop_of_requires
-    returns)
+    put (window_with a.bytes.now a.len a.bits) _ _ start.requires.0 peeked.peeks_around-peeks.ensures
+    weighed.sample_weight-centre.ensures weighed.sample_weight-early.ensures weighed.sample_weight-late.ensures
+    compared.larger.ensures c.larger-2.ensures c.stride.ensures c.stop_of.ensures

@@ -1,5 +1,4 @@
 -- `SampleWindow::decode_phase` meets its contract. Assumes nothing.
-use borrow.Author.Rules.{rules}
 use mathlib.Core.Path.{◌≡◌, refl, sym, ◌∙◌, ap}
 use mathlib.Core.List.{List}
 use Prim.Native.Nat.{ℕ, ◌<◌, ◌-◌, ◌^◌}
@@ -17,8 +16,7 @@ use Rattle.window.specs.declared.PhaseRead.TheVariants as read
 use Rattle.window.specs.Phase.{PhaseBits, failed, weighed, bits_of, length_of, data_bit, stored_bits, data_of, decode_of, phase_of}
 use Rattle.window.specs.Code.{summary_of, stored_of, placed_of}
 use Rattle.window.proofs.Bytes.{placed_is}
-use Rattle.window.proofs.SampleWindow.decode_phase.Statement.{statement}
-use Rattle.window.proofs.SampleWindow.decode_phase.Tie as tie
+use Rattle.window.proofs.SampleWindow.decode_phase.Goals as goal
 
 same : (x y : Reading) → read.Bits x ≡ read.Bits y → x ≡ y
 same x y e = cc
@@ -63,60 +61,17 @@ module _ (w : SampleWindow) (most : ℕ) (phase z : ℤ) (same-phase : z ≡ pha
       go failed h = clash x h
       go (weighed ws) h = rw (ed, en, el, same x _ h, placed_is (stored_bits ws) (data_bit ws) (omega arith) (bit ws))
 
-from_earliest_requires : tie.Need-from-earliest-requires
-from_earliest_requires c κs = search rules
+pub placed-requires : goal.placed-requires
+placed-requires c = (rw c.stored.ensures (fits _ _ (sym c.in-Bits.is ∙ c.read_phase-read.ensures)), omega arith)
 
-read_phase_requires : tie.Need-read-phase-requires
-read_phase_requires c κs = search rules
+pub returns-in-Held : goal.returns-in-Held
+returns-in-Held c =
+    let answered = c.read_phase-read.ensures in
+    let moved = c.from_earliest.ensures.result_value in
+    c.failed.ensures ∙ none _ _ _ _ (to_z-of_z c.ranges.phase_ticks) c.from_earliest.result moved (sym c.in-Held.is ∙ answered)
 
-enum_told : tie.Need-enum-told
-enum_told c = search rules
-
-failed_requires : tie.Need-failed-requires
-failed_requires c κs = search rules
-
-enum_known_read : tie.Need-enum-known-read
-enum_known_read c = search rules
-
-reported_requires : tie.Need-reported-requires
-reported_requires c κs = search rules
-
-stored_requires : tie.Need-stored-requires
-stored_requires c κs = search rules
-
-placed_requires : tie.Need-placed-requires
-placed_requires c κs =
-    let with-bits = c.before.before.before in
-    (rw c.stored.ensures (fits _ _ (sym with-bits.read.given.1 ∙ with-bits.before.before.read-phase.ensures)), omega arith)
-
-returns : tie.Need-returns
-returns c =
-    let answered = c.before.before.before in
-    let biased = answered.before in
-    c.failed.ensures
-    ∙ none _ _ _ _ (to_z-of_z biased.before.ranges.phase-ticks) biased.from-earliest.result biased.from-earliest.ensures.0
-    (sym c.before.enum_told.given.1 ∙ answered.read-phase.ensures)
-
-returns_2 : tie.Need-returns-2
-returns_2 c =
-    let counted = c.before.before in
-    let with-bits = counted.before.before in
-    let answered = with-bits.before.before in
-    let biased = answered.before in
-    some _ _ _ _ (to_z-of_z biased.before.ranges.phase-ticks) biased.from-earliest.result biased.from-earliest.ensures.0 _
-    (sym with-bits.read.given.1 ∙ answered.read-phase.ensures) counted.reported.ensures c.before.stored.ensures c.placed.ensures
-
-pub decode_phase_spec : {M : Type 1} → statement M
-decode_phase_spec =
-    tie.close
-    (tie.spec
-    from_earliest_requires
-    read_phase_requires
-    enum_told
-    failed_requires
-    enum_known_read
-    reported_requires
-    stored_requires
-    placed_requires
-    returns
-    returns_2)
+pub returns-in-Bits : goal.returns-in-Bits
+returns-in-Bits c =
+    let answered = c.read_phase-read.ensures in
+    let moved = c.from_earliest.ensures.result_value in
+    some _ _ _ _ (to_z-of_z c.ranges.phase_ticks) c.from_earliest.result moved _ (sym c.in-Bits.is ∙ answered) c.reported.ensures c.stored.ensures c.placed.ensures
