@@ -1,10 +1,8 @@
 -- `half_bits` meets its contract. The loop's invariant: the number is that of the half-bits of the start and of the bits so far.
 -- Assumes nothing.
-use borrow.Author.Rules.{rules}
-use mathlib.Core.Path.{◌≡◌, refl}
-use Prim.Native.Nat.{◌-◌, ◌≤◌}
+use mathlib.Core.Path.{refl}
 use native.Mathlib.Omega.{arith}
-use Rattle.halfbits.proofs.Halves.{begun, start, turn, small, ended}
+use Rattle.halfbits.proofs.Halves.{start, turn, small, ended}
 use Rattle.halfbits.proofs.half_bits.Goals as goal
 
 pub loop-at-init : goal.loop-at-init

@@ -1,9 +1,7 @@
 -- `half_bits` meets its contract. The loop's invariant: the number is that of the half-bits of the start and of the bits so far.
-use borrow.Author.Rules.{rules}
-use mathlib.Core.Path.{◌≡◌, refl}
+use mathlib.Core.Path.{◌≡◌}
 use Prim.Native.Nat.{◌-◌, ◌≤◌}
-use native.Mathlib.Omega.{arith}
-use Rattle.halfbits.proofs.Halves.{begun, start, turn, small, ended}
+use Rattle.halfbits.proofs.Halves.{begun}
 use Rattle.halfbits.proofs.half_bits.Given as goal
 
 abbrev pub invariant-loop-at : goal.invariant-loop-at

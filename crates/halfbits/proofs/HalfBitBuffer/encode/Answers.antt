@@ -1,5 +1,4 @@
 -- `HalfBitBuffer::encode` meets its contract. Assumes nothing.
-use borrow.Author.Rules.{rules}
 use mathlib.Core.Bool.{true}
 use mathlib.Core.Path.{◌≡◌, refl}
 use Rattle.laws.proofs.Picked.{on_true, on_false}
