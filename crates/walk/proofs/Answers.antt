@@ -2,7 +2,7 @@
 use mathlib.Core.Path.{◌≡◌, refl, ◌∙◌, ap, subst}
 use mathlib.Core.List.{[], ◌∷◌, List}
 use seplogic.Ra.Ura.{Ura}
-use mir.Syntax.{Name, Place, Opd as Operand, Body, seq, call}
+use mir.Syntax.{Callee, Place, Opd as Operand, Body, seq, call}
 use mir.Val.{Val}
 use base.Logic.{SProp, ent, sep, emp, ex, guard, via, mono∗, mono_l, mono_r, emp∗, id⊢, ex_e, snd∗}
 use base.Fml.{ftrue}
@@ -54,10 +54,10 @@ module _ {M : Type 1} {𝓤 : Ura M} {𝓛 : Logic 𝓤} where
   making (D ∷ Ds) = (D.makes, making Ds)
 
   -- called at vs, f answers y; and at any good values, it answers y of them
-  pub record Answers (C : Calls 𝓤 H) (f : Name) (vs : List Val) (D : Data 𝓛) (y : D.row.Denot) : Type 1 where
+  pub record Answers (C : Calls 𝓤 H) (f : Callee) (vs : List Val) (D : Data 𝓛) (y : D.row.Denot) : Type 1 where
     pub prf : ent 𝓤 (emp 𝓤) (C f vs (λ v. H.⇛ (guard 𝓤 ((v ≡ D.val y) × Good D y) (emp 𝓤))))
 
-  pub record Computes (C : Calls 𝓤 H) (f : Name) (Ds : List (Data 𝓛)) (D : Data 𝓛) (y : Denots (rows Ds) → D.row.Denot) : Type 1 where
+  pub record Computes (C : Calls 𝓤 H) (f : Callee) (Ds : List (Data 𝓛)) (D : Data 𝓛) (y : Denots (rows Ds) → D.row.Denot) : Type 1 where
     pub at : (a : Denots (rows Ds)) → Goods Ds a → Answers C f (flat (rows Ds) (spelled Ds a)) D (y a)
 
   -- the contract that says no more than the answer
@@ -65,7 +65,7 @@ module _ {M : Type 1} {𝓤 : Ura M} {𝓛 : Logic 𝓤} where
   promising Ds D y κs a = record { ghost = Unit {0}; requires = λ _. emp 𝓤; ensures = λ _ r e. fact 𝓤 (r ≡ y a) }
 
   module _ where
-    computing : {C : Calls 𝓤 H} → FmC 𝓤 H 𝓛.laws C → {f : Name} {Ds : List (Data 𝓛)} {D : Data 𝓛} {y : Denots (rows Ds) → D.row.Denot}
+    computing : {C : Calls 𝓤 H} → FmC 𝓤 H 𝓛.laws C → {f : Callee} {Ds : List (Data 𝓛)} {D : Data 𝓛} {y : Denots (rows Ds) → D.row.Denot}
         → Triple 𝓤 (C f) (triple_of 𝓛 (by_value Ds D).signature (closing 𝓛 (by_value Ds D) (promising Ds D y))) → Computes C f Ds D y
     computing {C} fm {f} {Ds} {D} {y} met = record { at = answers }
       where
@@ -99,13 +99,13 @@ module _ {M : Type 1} {𝓤 : Ura M} {𝓛 : Logic 𝓤} where
                 at_once ! $ check ! (ap only (D.tells r (v ∷ []) is) ∙ ap D.val e, subst (Good D) e (subst (Is D.row r) (D.tells r (v ∷ []) is) is)) $ keep ! [] $ done !)))
 
     -- a function of the environment γ that meets it
-    pub cites : (𝓜 : Model 𝓤 H) (𝓡 : Running 𝓤 H 𝓜) (γ : Names) → FmC 𝓤 H 𝓛.laws (tables 𝓤 H 𝓜 𝓡 γ).C → {f : Name} {Ds : List (Data 𝓛)} {D : Data 𝓛} {y : Denots (rows Ds) → D.row.Denot} {r : Routine}
+    pub cites : (𝓜 : Model 𝓤 H) (𝓡 : Running 𝓤 H 𝓜) (γ : Names) → FmC 𝓤 H 𝓛.laws (tables 𝓤 H 𝓜 𝓡 γ).C → {f : Callee} {Ds : List (Data 𝓛)} {D : Data 𝓛} {y : Denots (rows Ds) → D.row.Denot} {r : Routine}
         → γ f ≡ r → Triple 𝓤 (𝓡.run r) (triple_of 𝓛 (by_value Ds D).signature (closing 𝓛 (by_value Ds D) (promising Ds D y))) → Computes (tables 𝓤 H 𝓜 𝓡 γ).C f Ds D y
     cites 𝓜 𝓡 γ fm {f} {r = r} e met = computing fm (cited 𝓤 H _ 𝓜 𝓡 γ f r e met)
 
   module _ {K : Type 0} {Γ : List (Item 𝓤)} {E : Env 𝓤 H} {C : Calls 𝓤 H} {Λ : Loops 𝓤 H} {q : Post 𝓤 H} where
     -- a call by value: nothing is handed over, and the answer is known
-    pub calls_by : K → FmC 𝓤 H 𝓛.laws C → {f : Name} {xs : List Operand} {d : Place} {rest : Body} {vs : List Val} {D : Data 𝓛} {y : D.row.Denot} → Answers C f vs D y → Opds K 𝓛 Γ E xs vs
+    pub calls_by : K → FmC 𝓤 H 𝓛.laws C → {f : Callee} {xs : List Operand} {d : Place} {rest : Body} {vs : List Val} {D : Data 𝓛} {y : D.row.Denot} → Answers C f vs D y → Opds K 𝓛 Γ E xs vs
         → (Good D y → Seq K 𝓛 Γ (lands C Λ E d (D.val y) rest q)) → Seq K 𝓛 Γ (runs C Λ E (seq (call f xs d) rest) q)
     calls_by t fm {f} {xs} {d} {rest} {vs} {D} {y} ans os k = record {
       prf =

@@ -4,9 +4,9 @@ use Prim.Native.Nat.{ℕ}
 use mathlib.Core.Option.{some}
 use mathlib.Core.List.{[], ◌∷◌, List, ◌++◌}
 use seplogic.Ra.Ura.{Ura}
-use seplogic.Ra.TreeShare.{full_share}
+use base.Fraction.{full_share}
 use lib.Dec.{T}
-use mir.Syntax.{assign, Name, Ty, place, Opd as Operand, Body, seq, call, Local, named, addr_of, aggregate}
+use mir.Syntax.{assign, Callee, Ty, place, Opd as Operand, Body, seq, call, Local, named, addr_of, aggregate}
 use mir.Val.{Val, WT, has_ty, vptr, vstruct, of_list}
 use base.Logic.{SProp, ent, sep, emp, guard, via, id⊢}
 use base.Fml.{ftrue, fat, Fml, GName, flft, flent, fres}
@@ -15,13 +15,12 @@ use types.Logic.{Logic, sem}
 use contract.Monad.{fact}
 use sound.WpLaws.{FmC}
 use types.Kit as Kit
-use types.Kit.{Item, ‵, raw, ◌⊛◌, given, later, nth, ⋆, push, Post, Goal, runs, lands, Seq, Step, step, ◌$◌, ◌∵◌, !, qed, by, move, keep, use1, split, pick, learn, regoal, await, updating, now as at_once, check, done, mean, del, pop, pull, fill, use0, use2, use3, join, rewrite, fsplit, fjoin}
+use types.Kit.{Item, ‵, raw, ◌⊛◌, given, later, nth, ⋆, push, Post, Goal, runs, lands, Seq, Step, step, ◌$◌, ◌∵◌, !, qed, by, move, keep, drop, use1, split, pick, learn, regoal, await, updating, now as at_once, check, done, mean, del, pop, pull, fill, use0, use2, use3, join, rewrite, fsplit, fjoin}
 use types.Part.{agg}
 use types.Run.{stop, assigns, land, Opds, addr, calls}
 use denote.RattleType.{Denots, Valss, flat, owns}
 use denote.Laws.{Is, shows}
 use denote.Steps.{heard, only, facts, nothing}
-use denote.Struct.Laws.{vals}
 use denote.Signature.{Slot, plain, types_at, mut_ref_to}
 use denote.Exit.{yes}
 use denote.Triple.End.{Kepts}
@@ -44,7 +43,7 @@ module _ {M : Type 1} {𝓤 : Ura M} {𝓛 : Logic 𝓤} where
   -- called at us with P, f answers y and leaves Q, and φ holds
   open 𝓛 use {H, A}
 
-  pub record Gives (C : Calls 𝓤 H) (f : Name) (us : List Val) (P : Fml) (D : Data 𝓛) (y : D.row.Denot) (φ : Type 0) (Q : Fml) : Type 1 where
+  pub record Gives (C : Calls 𝓤 H) (f : Callee) (us : List Val) (P : Fml) (D : Data 𝓛) (y : D.row.Denot) (φ : Type 0) (Q : Fml) : Type 1 where
     pub prf : ent 𝓤 (sem 𝓛 P) (H.⇛ (C f us (λ v. H.⇛ (guard 𝓤 ((v ≡ D.val y) × (Good D y × φ)) (sem 𝓛 Q)))))
 
   -- a function that is lent one thing, and has the rest by value
@@ -54,7 +53,7 @@ module _ {M : Type 1} {𝓤 : Ura M} {𝓛 : Logic 𝓤} where
   abbrev pub ref : (S : Data 𝓛) → ℕ → GName → S.row.Denot → MutBor S.row.Denot
   ref S b γ x = record { ref_ptr = (b, 0); ghost_name = γ; now = x }
 
-  module _ {C : Calls 𝓤 H} (fm : FmC 𝓤 H 𝓛.laws C) {f : Name} (S : Data 𝓛) (one : One S) (ss : List (Slot 1)) (ks : Kepts ss) (D : Data 𝓛) (c : Clauses 𝓤 (lent_first S ss ks D))
+  module _ {C : Calls 𝓤 H} (fm : FmC 𝓤 H 𝓛.laws C) {f : Callee} (S : Data 𝓛) (one : One S) (ss : List (Slot 1)) (ks : Kepts ss) (D : Data 𝓛) (c : Clauses 𝓤 (lent_first S ss ks D))
       (met : Triple 𝓤 (C f) (triple_of 𝓛 (lent_first S ss ks D).signature (closing 𝓛 (lent_first S ss ks D) c))) (us : List Val)
       (rest : (κs : Lfts 1) → Denots (types_at ss κs)) (vals : (κs : Lfts 1) → Valss (types_at ss κs)) (same : (κs : Lfts 1) → flat (types_at ss κs) (vals κs) ≡ us)
       (made : (κs : Lfts 1) → ent 𝓤 (emp 𝓤) (sem 𝓛 (owns (types_at ss κs) (rest κs) (vals κs)))) where
@@ -93,8 +92,8 @@ module _ {M : Type 1} {𝓤 : Ura M} {𝓛 : Logic 𝓤} where
             await ! tt $ pick ! (λ r. split ! $ move ! (1 ∷ []) $
             use1 𝓛 (Kit.some (λ (ws : Lasts lent κs a). ‵ (lasts lent κs a ws) ⊛ raw ((c κs a).ensures (g κs γ) r (at_exit lent κs a ws)))) (id⊢ 𝓤 _) $ pick ! (λ ws. split ! $ move ! (1 ∷ []) $
             use1 𝓛 (raw (fact 𝓤 ((ws.0 ≡ t) × (r ≡ y)))) (says κs γ r (at_exit lent κs a ws)) $ heard ! ((ws.0 ≡ t) × (r ≡ y)) (λ e.
-            -- [the last value, and the rest's; tokens and result; the lender's part]
-            fsplit ! $ rewrite ! 0 (λ (z : S.row.Denot). ‵ (fres γ (S.row.coded.code z))) e.0 refl $
+            -- [the last value; the borrow, which is not wanted; the rest's; tokens and result; the lender's part]
+            fsplit ! $ fsplit ! $ move ! (1 ∷ []) $ drop ! $ rewrite ! 0 (λ (z : S.row.Denot). ‵ (fres γ (S.row.coded.code z))) e.0 refl $
             move ! (2 ∷ []) $ split ! $ move ! (1 ∷ []) $ facts ! D.row (Is D.row) (shows 𝓛 D.row) r (v ∷ []) (λ shown. split ! $
             -- the lifetime is ended, and what was lent is taken back
             lft_end ! tt $ move ! (0 ∷ 4 ∷ 2 ∷ []) $ use3 𝓛 (later (‵ (part_at S.row full_share t b 0))) (ref_back 𝓛 S.row (α ∷ []) γ t b 0) $ await ! tt $
@@ -118,17 +117,17 @@ module _ {M : Type 1} {𝓤 : Ura M} {𝓛 : Logic 𝓤} where
   module _ {K : Type 0} {l : ℕ → ℕ} {ls : List Local} {vs : Held} {X : List (Item 𝓤)} {C : Calls 𝓤 H} {Λ : Loops 𝓤 H} {q : Post 𝓤 H} where
     -- ---- statements: the address of local i, a struct of operands, and a call to which local i is lent, each into local j. A call's operands are found where the local's cell stands no more, and the call before all else
     pub refers : K → {i j : ℕ} {b : Body} {σ τ : Ty} → type_of ls i ≡ some σ → type_of ls j ≡ some τ → T (has_ty τ (vptr (l i) 0)) × WT (vptr (l i) 0)
-        → At {𝓛 = 𝓛} K C Λ l ls (put j (some (vptr (l i) 0)) vs) X b q → At {𝓛 = 𝓛} K C Λ l ls vs X (seq (assign (place j []) (addr_of (place i []))) b) q
+        → At 𝓛 K C Λ l ls (put j (some (vptr (l i) 0)) vs) X b q → At 𝓛 K C Λ l ls vs X (seq (assign (place j []) (addr_of (place i []))) b) q
     refers t {i} {j} {σ = σ} {τ = τ} e e' fits s = record { go = assigns t (addr t (at t (spot_local 𝓛 l ls i σ e) (stop t))) (at t (spot_local 𝓛 l ls j τ e') (stop t)) (sets l ls vs t X j e' fits) $ s.go }
 
-    pub builds : K → {j : ℕ} {xs : List Operand} {us : List Val} {b : Body} {τ : Ty} → type_of ls j ≡ some τ → GetsAll {𝓛 = 𝓛} K l ls vs X xs us → T (has_ty τ (vstruct (of_list us))) × WT (vstruct (of_list us))
-        → At {𝓛 = 𝓛} K C Λ l ls (put j (some (vstruct (of_list us))) vs) X b q → At {𝓛 = 𝓛} K C Λ l ls vs X (seq (assign (place j []) (aggregate xs)) b) q
+    pub builds : K → {j : ℕ} {xs : List Operand} {us : List Val} {b : Body} {τ : Ty} → type_of ls j ≡ some τ → GetsAll 𝓛 K l ls vs X xs us → T (has_ty τ (vstruct (of_list us))) × WT (vstruct (of_list us))
+        → At 𝓛 K C Λ l ls (put j (some (vstruct (of_list us))) vs) X b q → At 𝓛 K C Λ l ls vs X (seq (assign (place j []) (aggregate xs)) b) q
     builds t {j} {τ = τ} e gs fits s = record { go = assigns t (agg t gs.go) (at t (spot_local 𝓛 l ls j τ e) (stop t)) (sets l ls vs t X j e fits) $ s.go }
 
-    pub asks_lending : K → FmC 𝓤 H 𝓛.laws C → (i : ℕ) {j : ℕ} {f : Name} {xs : List Operand} {us : List Val} {b : Body} {τ : Ty} {u v : Val} {D : Data 𝓛} {y : D.row.Denot} {φ : Type 0}
+    pub asks_lending : K → FmC 𝓤 H 𝓛.laws C → (i : ℕ) {j : ℕ} {f : Callee} {xs : List Operand} {us : List Val} {b : Body} {τ : Ty} {u v : Val} {D : Data 𝓛} {y : D.row.Denot} {φ : Type 0}
         → Gives C f us (fat full_share τ (l i) 0 u) D y φ (fat full_share τ (l i) 0 v) → type_of ls i ≡ some τ → vs i ≡ some u
         → ((P : SProp 𝓤) → Opds K 𝓛 (raw P ∷ del 𝓛 (twice i) (locals 𝓤 l ls vs ++ X)) (blocks l ls) xs us) → type_of ls j ≡ some D.type
-        → (Good D y × φ → At {𝓛 = 𝓛} K C Λ l ls (put j (some (D.val y)) (put i (some v) vs)) X b q) → At {𝓛 = 𝓛} K C Λ l ls vs X (seq (call f xs (place j [])) b) q
+        → (Good D y × φ → At 𝓛 K C Λ l ls (put j (some (D.val y)) (put i (some v) vs)) X b q) → At 𝓛 K C Λ l ls vs X (seq (call f xs (place j [])) b) q
     asks_lending t fm i {j} {f} {xs} {us} {b} {τ} {u} {v} {D} {y} {φ} gives e h os e' k = record {
       go = taken_out $ subst (λ (x : Item 𝓤). Seq K 𝓛 (x ∷ Rest) (runs C Λ (blocks l ls) (seq (call f xs (place j [])) b) q)) (sym (nth_local 𝓛 l ls vs X i τ e ∙ ap (holding 𝓤 τ (l i)) h))
           (use1 𝓛 (later (raw (C f us (λ r. mean 𝓛 (Told r))))) gives.prf $ await t tt $ calls t fm Told (os _) (λ r. await t tt $ learn t (λ g. regoal t (λ z. lands C Λ (blocks l ls) (place j []) z b q) g.0 refl $

@@ -3,7 +3,7 @@ use mathlib.Core.Path.{◌≡◌, sym, subst}
 use Prim.Native.Nat.{ℕ}
 use mathlib.Core.List.{[], ◌∷◌, List}
 use seplogic.Ra.Ura.{Ura}
-use seplogic.Ra.TreeShare.{full_share}
+use base.Fraction.{full_share}
 use mir.Syntax.{Ty, Body, Local}
 use mir.Val.{Val}
 use base.Logic.{ent, guard}
@@ -64,7 +64,7 @@ module _ {M : Type 1} {𝓤 : Ura M} {𝓛 : Logic 𝓤} where
   module _ {K : Type 0} {l : ℕ → ℕ} {ls : List Local} {vs : Held} {C : Calls 𝓤 H} {Λ : Loops 𝓤 H} {q : Post 𝓤 H} {c : Body} where
     -- a loan is opened, and closed at what then lies there
     pub opens_loan : K → (D : Data 𝓛) → One D → {κ : Lft} {s : Share} {γ : GName} (b o : ℕ) (x : D.row.Denot)
-        → (Good D x → At {𝓛 = 𝓛} K C Λ l ls vs (Opened D κ s γ b o x x) c q) → At {𝓛 = 𝓛} K C Λ l ls vs (Loan D κ s γ b o x) c q
+        → (Good D x → At 𝓛 K C Λ l ls vs (Opened D κ s γ b o x x) c q) → At 𝓛 K C Λ l ls vs (Loan D κ s γ b o x) c q
     opens_loan t D one {κ} {s} {γ} b o x k = record {
       go = swapped t (locals 𝓤 l ls vs) (Loan D κ s γ b o x) [] $ opens t tt D.row {h = x} b o (λ us.
           spelt t D.row (Is D.row) (shows 𝓛 D.row) (λ y. D.val y ∷ []) D.tells full_share x us b o $
@@ -73,7 +73,7 @@ module _ {M : Type 1} {𝓤 : Ura M} {𝓛 : Logic 𝓤} where
     }
 
     pub closes_loan : K → (D : Data 𝓛) → One D → {κ : Lft} {s : Share} {γ : GName} (b o : ℕ) {x : D.row.Denot} (y : D.row.Denot) → Good D y
-        → At {𝓛 = 𝓛} K C Λ l ls vs (Loan D κ s γ b o y) c q → At {𝓛 = 𝓛} K C Λ l ls vs (Opened D κ s γ b o x y) c q
+        → At 𝓛 K C Λ l ls vs (Loan D κ s γ b o y) c q → At 𝓛 K C Λ l ls vs (Opened D κ s γ b o x y) c q
     closes_loan t D one {κ} {s} {γ} b o {x} y is k = record {
       go = swapped t (locals 𝓤 l ls vs) (Opened D κ s γ b o x y) [] $ use1 𝓛 (‵ (cell_at full_share D.row.mir (D.val y ∷ []) b o)) (in_cell D one b o y) $
           owned t D.row (Is D.row) D.makes y _ is $ move t (1 ∷ 0 ∷ []) $ closes t tt D.row y (D.val y ∷ []) b o $
