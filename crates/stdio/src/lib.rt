@@ -1,12 +1,13 @@
 // Standard input, standard output and standard error. No promise can say what a file holds. So each call hands out a mark, which no proof can make by
 // itself: `Came` of what a read reported, `Went` of a text to be written, `Complained` of a message. A program that promises something of its input
-// and output can keep the promise only by making these calls.
+// and output can keep the promise only by making these calls. They take the runtime of the process and no bound, under which a stand-in could be passed:
+// so the calls that leave the marks reach the outside.
 #![tactic(auto)]
 
 ghost use Rattle.std.specs.Prelude.{◌≡◌, length};
 ghost use Rattle.stdio.specs.Marks.{Came, Went, Complained, Within};
 
-use libc::{STDERR_FILENO, STDIN_FILENO, STDOUT_FILENO};
+use std::io::Read;
 
 // What a read reported: that many bytes, at the start of the buffer; the end of the input; or a failure.
 #[derive(Drop)]
@@ -17,31 +18,30 @@ pub enum Report {
 }
 
 // Reads once. `number` is the number of reads before this one, by the caller's count.
-pub fn read_chunk(number: u64, chunk: &mut [u8]) -> Report
+pub fn read_chunk(rt: HostRuntime, number: u64, chunk: &mut [u8]) -> Report
     ensures within { Within (length chunk.new) result }
     ensures came { Came number chunk.new result }
 {
-    let got = libc::read(STDIN_FILENO, chunk);
-    if got < 0 {
+    let Ok(count) = rt.stdin().read(chunk) else {
         return Report::Failed;
-    }
-    if got == 0 {
+    };
+    let is_end = count == 0;
+    if is_end {
         return Report::End;
     }
-    let bytes: &[u8] = chunk;
-    Report::Bytes(io::count(got, bytes))
+    Report::Bytes(count)
 }
 
 // Writes the whole text, and tells whether that succeeded.
-pub fn write_text(text: &[u8]) -> bool
+pub fn write_text(rt: HostRuntime, text: &[u8]) -> bool
     ensures { Went text.now result }
 {
-    io::write_all(STDOUT_FILENO, text)
+    rt.stdout().write_all(text).is_ok()
 }
 
 // Writes a message to standard error.
-pub fn complain(message: &[u8])
+pub fn complain(rt: HostRuntime, message: &[u8])
     ensures { Complained message.now }
 {
-    io::write_all(STDERR_FILENO, message);
+    let _ = rt.stderr().write_all(message);
 }
