@@ -1,4 +1,6 @@
 // Sets of preferred lengths, from source document 001 (manchester.rs).
+#![tactic(auto)]
+
 ghost use Rattle.std.specs.Prelude.{◌≡◌, [], ◌∷◌};
 ghost use Rattle.lengths.specs.Lengths.{holds, with_length, set_of, sniffed_lengths, backward_lengths, HoldsJust};
 ghost use Rattle.lengths.specs.Constants.{public_constants};

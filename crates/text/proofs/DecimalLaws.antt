@@ -8,7 +8,7 @@ use mathlib.Core.Path.{◌≡◌, refl, sym, ap, ◌∙◌}
 use lib.Dec.{eqb, ltb}
 use lib.ListN.{length, get_or, drop, drop_of_length-le}
 use lib.Seq.{drop-cons}
-use borrow.Author.Tests.{le-leb, lt-leb, leb-true, ltb-false, not-true, not-false}
+use borrow.Author.Tests.{le-leb, lt-leb, leb-true, ltb-false}
 use Rattle.laws.specs.Pick.{pick}
 use Rattle.laws.proofs.Picked.{on_true, on_false, cases}
 use Rattle.text.specs.declared.decimals.Number.{Number}
@@ -50,11 +50,11 @@ more_begun (a ∷ []) n m = absurd (m refl)
 more_begun (a ∷ (b ∷ s)) n m = refl
 
 module _ (s : List ℕ) (r : Bool) (e : is_decimal s ≡ (r && all_digits s)) where
-  pub not_begun : not r ≡ true → is_decimal s ≡ false
-  not_begun t = e ∙ rw (not-true r t)
+  pub not_begun : r ≡ false → is_decimal s ≡ false
+  not_begun t = e ∙ rw t
 
-  pub well_begun : not r ≡ false → is_decimal s ≡ all_digits s
-  well_begun t = e ∙ rw (not-false r t)
+  pub well_begun : r ≡ true → is_decimal s ≡ all_digits s
+  well_begun t = e ∙ rw t
 
 pub not_digits : (s : List ℕ) → all_digits s ≡ false → is_decimal s ≡ false
 unfolding is_decimal all_digits

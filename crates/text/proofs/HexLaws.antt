@@ -3,13 +3,13 @@ use Prim.Native.Nat.{ℕ, zero, suc, ◌+◌, ◌*◌, ◌-◌, ◌/◌, ◌%◌
 use native.Mathlib.Nat.{pow-suc, pow-le-pow_right, div-lt_iff_lt-mul}
 use native.Mathlib.Numerals.{add-one}
 use native.Mathlib.Omega.{arith}
-use mathlib.Core.Bool.{Bool, true, false, not, ◌&&◌, and-false}
+use mathlib.Core.Bool.{Bool, true, false, ◌&&◌, and-false}
 use mathlib.Core.List.{List, [], ◌∷◌, ◌++◌, append-nil}
 use mathlib.Core.Path.{◌≡◌, refl, sym, ap, ◌∙◌}
 use lib.Dec.{eqb, ltb, leb, eqb→eq}
 use lib.ListN.{length, get_or, take, drop, set, drop_of_length-le}
 use lib.Seq.{sets, drop-cons, take_all, take-suc-set, append_snoc}
-use borrow.Author.Tests.{lt-ltb, le-ltb, ltb-true, le-leb, lt-leb, eq-eqb, eqb-true, ne_eqb, not-true, not-false}
+use borrow.Author.Tests.{lt-ltb, le-ltb, ltb-true, le-leb, lt-leb, eq-eqb, eqb-true, ne_eqb}
 use Rattle.laws.specs.Pick.{pick}
 use Rattle.laws.proofs.Below.{below}
 use Rattle.laws.proofs.Picked.{on_true, on_false}
@@ -120,13 +120,13 @@ all_spelled h s i all len took =
 
 -- ---- each way in which the code answers on a buffer that is filled whole
 module _ (f b : List ℕ) where
-  pub not_filled : {r : Bool} → r ≡ is_hex (length b) f → not r ≡ true → (false ≡ is_hex (length b) f) × (b ≡ filled_by f b)
+  pub not_filled : {r : Bool} → r ≡ is_hex (length b) f → r ≡ false → (false ≡ is_hex (length b) f) × (b ≡ filled_by f b)
   unfolding filled_by
-  not_filled {r} e t = let other = sym e ∙ not-true r t in (sym other, sym (on_false other _ _))
+  not_filled {r} e t = let other = sym e ∙ t in (sym other, sym (on_false other _ _))
 
-  pub is_filled : {r : Bool} → r ≡ is_hex (length b) f → not r ≡ false → {after : List ℕ} → after ≡ bytes_of f → (true ≡ is_hex (length b) f) × (after ≡ filled_by f b)
+  pub is_filled : {r : Bool} → r ≡ is_hex (length b) f → r ≡ true → {after : List ℕ} → after ≡ bytes_of f → (true ≡ is_hex (length b) f) × (after ≡ filled_by f b)
   unfolding filled_by
-  is_filled {r} e t s = let hex = sym e ∙ not-false r t in (sym hex, s ∙ sym (on_true hex _ _))
+  is_filled {r} e t s = let hex = sym e ∙ t in (sym hex, s ∙ sym (on_true hex _ _))
 
 -- ---- each way in which the code answers on a number of so many digits
 pub hexes : Sums 16 digit_value hex_value_from

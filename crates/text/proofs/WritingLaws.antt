@@ -4,13 +4,13 @@ use native.Mathlib.Decide.{dec_lt}
 use native.Mathlib.Nat.{add-zero}
 use native.Mathlib.Numerals.{add-one}
 use native.Mathlib.Omega.{arith}
-use mathlib.Core.Bool.{Bool, true, false, not}
+use mathlib.Core.Bool.{Bool, true, false}
 use mathlib.Core.List.{List, [], ◌∷◌, ◌++◌}
 use mathlib.Core.Path.{◌≡◌, sym, ap, ◌∙◌}
 use lib.Dec.{leb}
 use lib.ListN.{length, get_or, drop, set, length-append, drop_of_length-le}
 use lib.Seq.{sets, length-sets, set_comm, drop-cons}
-use borrow.Author.Tests.{le-leb, lt-leb, leb-true, not-true, not-false}
+use borrow.Author.Tests.{le-leb, lt-leb, leb-true}
 use Rattle.laws.proofs.Picked.{on_true, on_false}
 use Rattle.text.specs.Writing.{room_at, place_after, buffer_after}
 use Rattle.text.specs.Code.{Put}
@@ -46,11 +46,11 @@ without a b n h = split (dec_lt (n - b) a)
 
 -- what a test of the room says
 module _ (room place : ℕ) (buffer : List ℕ) {test : Bool} (e : test ≡ room_at room place buffer) where
-  pub enough : not test ≡ false → place + room ≤ length buffer
-  enough t = leb-true (place + room) (length buffer) (sym e ∙ not-false test t)
+  pub enough : test ≡ true → place + room ≤ length buffer
+  enough t = leb-true (place + room) (length buffer) (sym e ∙ t)
 
-  pub too_little : not test ≡ true → room_at room place buffer ≡ false
-  too_little t = sym e ∙ not-true test t
+  pub too_little : test ≡ false → room_at room place buffer ≡ false
+  too_little t = sym e ∙ t
 
 -- ---- a text where there is room, and where there is none
 module _ (room : ℕ) (text : List ℕ) (place : ℕ) (buffer : List ℕ) where

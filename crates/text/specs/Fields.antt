@@ -1,5 +1,5 @@
 -- Document 01, "The bench reader": the fields of a text, and how they are joined. A text is its bytes. Assumes nothing.
-use Rattle.std.specs.Prelude.{ℕ, zero, suc, List, [], ◌∷◌, ◌++◌, eqb, length, get_or}
+use Rattle.std.specs.Prelude.{ℕ, suc, List, [], ◌∷◌, ◌++◌, eqb, length, get_or}
 use Rattle.laws.specs.Pick.{pick}
 
 -- one byte more in front of the first part

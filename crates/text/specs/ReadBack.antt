@@ -1,5 +1,5 @@
 -- Document 01, "The bench reader": a reader reads back what a writer writes. Assumes nothing.
-use Rattle.std.specs.Prelude.{ℕ, ◌^◌, ◌≤◌, ◌<◌, true, false, List, [], ◌∷◌, ◌≡◌, eqb, ℤ, pos, negsuc, length, get_or}
+use Rattle.std.specs.Prelude.{ℕ, ◌^◌, ◌≤◌, ◌<◌, true, false, List, [], ◌∷◌, ◌≡◌, eqb, pos, negsuc, length, get_or}
 use Rattle.text.specs.Fields.{fields_at, joined_by}
 use Rattle.text.specs.Words.{same_text}
 use Rattle.text.specs.Decimals.{number_in, byte_in, decimal_of}

@@ -1,5 +1,5 @@
 -- Document 01, "The bench reader": signed numbers from -128 to 127, as a phase is. They are decimals, with a minus in front below 0. Assumes nothing.
-use Rattle.std.specs.Prelude.{ℕ, suc, ◌&&◌, List, [], ◌∷◌, eqb, ltb, ℤ, pos, negsuc, neg_ℤ, get_or, drop}
+use Rattle.std.specs.Prelude.{ℕ, suc, ◌&&◌, List, ◌∷◌, eqb, ltb, ℤ, pos, negsuc, neg_ℤ, get_or, drop}
 use Rattle.laws.specs.Pick.{pick}
 use Rattle.text.specs.Letters.{minus}
 use Rattle.text.specs.Decimals.{value_of, is_up_to, decimal_of}

@@ -1,5 +1,4 @@
 -- `BitLengths::contains` meets its contract. Assumes nothing.
-use borrow.Author.Rules.{rules}
 use borrow.Author.Tests.{lt-ltb, le-ltb}
 use Rattle.laws.proofs.Picked.{on_true, on_false}
 use Rattle.lengths.specs.Lengths.{holds}

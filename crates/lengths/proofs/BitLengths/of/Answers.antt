@@ -1,9 +1,8 @@
 -- `BitLengths::of` meets its contract. The loop's invariant: the set with what is left of the list is the set of the whole list.
 -- Assumes nothing.
-use borrow.Author.Rules.{rules}
 use mathlib.Core.Path.{◌≡◌, refl}
 use mathlib.Core.List.{List}
-use Prim.Native.Nat.{ℕ, ◌≤◌, ◌<◌, ◌-◌, ◌+◌}
+use Prim.Native.Nat.{ℕ, ◌≤◌, ◌<◌, ◌+◌}
 use native.Mathlib.Omega.{arith}
 use native.Mathlib.Numerals.{add-one}
 use lib.ListN.{length, drop, get_or, drop_of_length-le}
@@ -26,18 +25,12 @@ pub loop-i-init : goal.loop-i-init
 unfolding set_of
 loop-i-init c = (omega arith, refl)
 
-pub bounds-lengths-i : goal.bounds-lengths-i
-bounds-lengths-i c = omega arith
-
-pub overflow_add-i : goal.overflow_add-i
-overflow_add-i c = omega arith
-
-pub loop-i-smaller : goal.loop-i-smaller
-loop-i-smaller c = omega arith
-
 pub loop-i-preserved : goal.loop-i-preserved
 loop-i-preserved c =
     (omega arith, turn _ _ _ _ c.loop-i-test.true c.loop-i.invariant.1 c.with_length-set.ensures)
 
 pub returns : goal.returns
-returns c = done _ _ _ c.loop-i-test.false c.loop-i.invariant.1
+returns c =
+    let both : (c.loop-i.set ≡ set_of c.args.lengths.now) × HoldsJust c.loop-i.set c.args.lengths.now
+    = done _ _ _ c.loop-i-test.false c.loop-i.invariant.1
+    in record { value = both.0; holds_just = both.1 }

@@ -1,15 +1,8 @@
 -- `BitLengths::of` meets its contract. The loop's invariant: the set with what is left of the list is the set of the whole list.
-use borrow.Author.Rules.{rules}
-use mathlib.Core.Path.{◌≡◌, refl}
-use mathlib.Core.List.{List}
-use Prim.Native.Nat.{ℕ, ◌≤◌, ◌<◌, ◌-◌, ◌+◌}
-use native.Mathlib.Omega.{arith}
-use native.Mathlib.Numerals.{add-one}
-use lib.ListN.{length, drop, get_or, drop_of_length-le}
-use lib.Seq.{drop-cons}
-use Rattle.lengths.specs.declared.BitLengths.{BitLengths}
-use Rattle.lengths.specs.Lengths.{with_length, with_lengths, set_of, HoldsJust}
-use Rattle.lengths.proofs.Member.{member}
+use mathlib.Core.Path.{◌≡◌}
+use Prim.Native.Nat.{◌≤◌, ◌-◌}
+use lib.ListN.{length, drop}
+use Rattle.lengths.specs.Lengths.{with_lengths, set_of}
 use Rattle.lengths.proofs.BitLengths.of.Given as goal
 
 abbrev pub invariant-loop-i : goal.invariant-loop-i

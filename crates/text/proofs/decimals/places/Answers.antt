@@ -1,11 +1,8 @@
 -- `text::decimals::places` meets its contract. Assumes nothing.
-use mathlib.Core.Path.{◌≡◌, ap}
-use Prim.Native.Nat.{◌+◌, ◌≤◌}
+use mathlib.Core.Path.{ap}
 use native.Mathlib.Omega.{arith}
 use lib.ListN.{length}
-use Rattle.text.specs.Decimals.{decimal_of}
 use Rattle.text.proofs.DecimalDigits.{decimal_one, places_more, length_decimal}
-use borrow.Author.Rules.{rules}
 use Rattle.text.proofs.decimals.places.Goals as goal
 
 pub overflow_add-count : goal.overflow_add-count

@@ -1,27 +1,24 @@
 -- `text::decimals::put_digits` meets its contract. Assumes nothing.
-use mathlib.Core.Path.{◌≡◌, refl}
-use Prim.Native.Nat.{◌+◌, ◌≤◌}
+use mathlib.Core.Path.{refl}
 use native.Mathlib.Omega.{arith}
 use lib.ListN.{length, length-set}
-use lib.Seq.{sets}
 use Rattle.text.specs.Code.{digits}
 use Rattle.text.proofs.WritingLaws.{enough, too_little, unwritten, written, put_of}
 use Rattle.text.proofs.Digits.{stored_on, stored_end}
 use Rattle.text.proofs.DecimalDigits.{last_digits, length_digits}
-use borrow.Author.Rules.{rules}
 use Rattle.text.proofs.decimals.put_digits.Goals as goal
 
 pub returns-then-not-has_room : goal.returns-then-not-has_room
 returns-then-not-has_room c =
     let a = c.args in
     let text = digits a.count a.number in
-    let over = too_little a.count a.at a.out.now c.has_room.ensures c.if-not-has_room.true-raw in
+    let over = too_little a.count a.at a.out.now c.has_room.ensures c.if-not-has_room.true in
     put_of text a.at a.out.now (unwritten (length text) text a.at a.out.now (rw (length_digits a.count a.number) over))
 
 pub loop-i-init : goal.loop-i-init
 loop-i-init c =
     let a = c.args in
-    (enough a.count a.at a.out.now c.has_room.ensures c.if-not-has_room.false-raw, omega arith, refl, refl)
+    (enough a.count a.at a.out.now c.has_room.ensures c.if-not-has_room.false, omega arith, refl, refl)
 
 pub loop-i-preserved : goal.loop-i-preserved
 loop-i-preserved c =
@@ -30,8 +27,7 @@ loop-i-preserved c =
 
 pub returns : goal.returns
 returns c =
-    let roomy = c.before.before in
-    let a = roomy.args in
+    let a = c.args in
     let text = digits a.count a.number in
     let long = length_digits a.count a.number in
     let at = c.loop-i in

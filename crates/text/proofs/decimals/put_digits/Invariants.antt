@@ -1,14 +1,9 @@
 -- `text::decimals::put_digits` meets its contract. Assumes nothing.
-use mathlib.Core.Path.{◌≡◌, refl}
+use mathlib.Core.Path.{◌≡◌}
 use Prim.Native.Nat.{◌+◌, ◌≤◌}
-use native.Mathlib.Omega.{arith}
-use lib.ListN.{length, length-set}
+use lib.ListN.{length}
 use lib.Seq.{sets}
 use Rattle.text.specs.Code.{digits}
-use Rattle.text.proofs.WritingLaws.{enough, too_little, unwritten, written, put_of}
-use Rattle.text.proofs.Digits.{stored_on, stored_end}
-use Rattle.text.proofs.DecimalDigits.{last_digits, length_digits}
-use borrow.Author.Rules.{rules}
 use Rattle.text.proofs.decimals.put_digits.Given as goal
 
 abbrev pub invariant-loop-i : goal.invariant-loop-i

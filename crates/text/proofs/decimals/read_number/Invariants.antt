@@ -1,16 +1,8 @@
 -- `text::decimals::read_number` meets its contract. Assumes nothing.
-use Prim.Native.Nat.{ℕ, ◌+◌, ◌*◌, ◌-◌, ◌≤◌}
-use native.Mathlib.Omega.{arith}
-use mathlib.Core.Bool.{true}
-use mathlib.Core.List.{List}
-use mathlib.Core.Path.{◌≡◌, sym, ◌∙◌}
-use lib.ListN.{length, get_or, drop}
-use borrow.Author.Tests.{not-true, not-false}
-use Rattle.text.specs.Letters.{letter}
-use Rattle.text.specs.Decimals.{is_digit, all_digits, value_from, value_of}
-use Rattle.text.proofs.Digits.{value_on, value_end}
-use Rattle.text.proofs.DecimalLaws.{digit_between, decimals, value-≥, digits_on, digits_end, not_digits, not_begun, well_begun, number_odd, number_high, number_good}
-use borrow.Author.Rules.{rules}
+use Prim.Native.Nat.{◌-◌, ◌≤◌}
+use mathlib.Core.Path.{◌≡◌}
+use lib.ListN.{length, drop}
+use Rattle.text.specs.Decimals.{all_digits, value_from, value_of}
 use Rattle.text.proofs.decimals.read_number.Given as goal
 
 abbrev pub invariant-loop-i : goal.invariant-loop-i

@@ -1,6 +1,5 @@
 -- `text::decimals::well_begun` meets its contract. Assumes nothing.
 use Rattle.text.proofs.DecimalLaws.{none_begun, one_begun, more_begun}
-use borrow.Author.Rules.{rules}
 use Rattle.text.proofs.decimals.well_begun.Goals as goal
 
 pub returns-then-field-eq0 : goal.returns-then-field-eq0

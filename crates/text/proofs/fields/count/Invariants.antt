@@ -1,12 +1,8 @@
 -- `text::fields::count` meets its contract. Assumes nothing.
-use mathlib.Core.Logic.{⊎_elim}
 use mathlib.Core.Path.{◌≡◌}
 use Prim.Native.Nat.{◌+◌, ◌-◌, ◌≤◌}
-use native.Mathlib.Omega.{arith}
 use lib.ListN.{length, drop}
 use Rattle.text.specs.Fields.{count_at}
-use Rattle.text.proofs.FieldLaws.{count_here, count_on, count_end}
-use borrow.Author.Rules.{rules}
 use Rattle.text.proofs.fields.count.Given as goal
 
 abbrev pub invariant-loop-i : goal.invariant-loop-i

@@ -1,11 +1,8 @@
 -- `text::fields::field` meets its contract. Assumes nothing.
-use mathlib.Core.Path.{◌≡◌, sym, ◌∙◌}
+use mathlib.Core.Path.{◌≡◌}
 use Prim.Native.Nat.{◌≤◌}
-use native.Mathlib.Omega.{arith}
 use lib.ListN.{length, drop}
 use Rattle.text.specs.Fields.{field_at}
-use Rattle.text.proofs.FieldLaws.{found-≤, field_on, field_gone, field_here}
-use borrow.Author.Rules.{rules}
 use Rattle.text.proofs.fields.field.Given as goal
 
 abbrev pub invariant-loop-left : goal.invariant-loop-left

@@ -1,11 +1,8 @@
 -- `text::fields::find` meets its contract. Assumes nothing.
 use mathlib.Core.Path.{◌≡◌}
 use Prim.Native.Nat.{◌+◌, ◌-◌}
-use native.Mathlib.Omega.{arith}
 use lib.ListN.{length, drop}
 use Rattle.text.specs.Fields.{bytes_before}
-use Rattle.text.proofs.FieldLaws.{mark_here, mark_on, mark_end}
-use borrow.Author.Rules.{rules}
 use Rattle.text.proofs.fields.find.Given as goal
 
 abbrev pub invariant-loop-i : goal.invariant-loop-i

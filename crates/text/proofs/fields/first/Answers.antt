@@ -2,7 +2,6 @@
 use native.Mathlib.Omega.{arith}
 use mathlib.Core.Path.{sym}
 use lib.Seq.{take_all, length-take-le}
-use borrow.Author.Rules.{rules}
 use Rattle.text.proofs.fields.first.Goals as goal
 
 pub returns-then-text-count : goal.returns-then-text-count

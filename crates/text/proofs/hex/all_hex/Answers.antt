@@ -1,11 +1,7 @@
 -- `text::hex::all_hex` meets its contract. Assumes nothing.
-use mathlib.Core.Path.{◌≡◌, sym, ◌∙◌}
-use Prim.Native.Nat.{◌-◌, ◌≤◌}
+use mathlib.Core.Path.{sym, ◌∙◌}
 use native.Mathlib.Omega.{arith}
-use lib.ListN.{length, drop}
-use Rattle.text.specs.Hex.{all_hex}
 use Rattle.text.proofs.HexLaws.{hex_bad, hex_good, hex_end}
-use borrow.Author.Rules.{rules}
 use Rattle.text.proofs.hex.all_hex.Goals as goal
 
 pub returns-then-digit_value-gt15 : goal.returns-then-digit_value-gt15

@@ -1,11 +1,8 @@
 -- `text::hex::all_hex` meets its contract. Assumes nothing.
-use mathlib.Core.Path.{◌≡◌, sym, ◌∙◌}
+use mathlib.Core.Path.{◌≡◌}
 use Prim.Native.Nat.{◌-◌, ◌≤◌}
-use native.Mathlib.Omega.{arith}
 use lib.ListN.{length, drop}
 use Rattle.text.specs.Hex.{all_hex}
-use Rattle.text.proofs.HexLaws.{hex_bad, hex_good, hex_end}
-use borrow.Author.Rules.{rules}
 use Rattle.text.proofs.hex.all_hex.Given as goal
 
 abbrev pub invariant-loop-i : goal.invariant-loop-i

@@ -3,7 +3,6 @@ use mathlib.Core.Path.{sym, ◌∙◌}
 use native.Mathlib.Omega.{arith}
 use Rattle.text.proofs.DecimalLaws.{digit_between}
 use Rattle.text.proofs.HexLaws.{value_decimal, value_low, value_high, value_letter}
-use borrow.Author.Rules.{rules}
 use Rattle.text.proofs.hex.digit_value.Goals as goal
 
 pub overflow_sub-result : goal.overflow_sub-result

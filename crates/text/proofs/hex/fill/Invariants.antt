@@ -1,13 +1,10 @@
 -- `text::hex::fill` meets its contract. Assumes nothing.
 use mathlib.Core.Path.{◌≡◌}
 use mathlib.Core.Bool.{true}
-use mathlib.Core.List.{List, ◌++◌}
-use Prim.Native.Nat.{ℕ, ◌+◌, ◌*◌, ◌-◌, ◌≤◌, ◌<◌}
-use native.Mathlib.Omega.{arith}
-use lib.ListN.{length, take, drop, length-set}
+use mathlib.Core.List.{◌++◌}
+use Prim.Native.Nat.{◌*◌, ◌-◌, ◌≤◌}
+use lib.ListN.{length, take, drop}
 use Rattle.text.specs.Hex.{all_hex, bytes_of}
-use Rattle.text.proofs.HexLaws.{bytes_on, top_small, low_small, still_hex, all_spelled}
-use borrow.Author.Rules.{rules}
 use Rattle.text.proofs.hex.fill.Given as goal
 
 abbrev pub invariant-loop-i : goal.invariant-loop-i

@@ -3,7 +3,6 @@ use mathlib.Core.Path.{sym}
 use borrow.Author.Tests.{lt-ltb, le-ltb}
 use Rattle.laws.proofs.Picked.{on_true, on_false}
 use Rattle.text.specs.Hex.{hex_digit}
-use borrow.Author.Rules.{rules}
 use Rattle.text.proofs.hex.hex_digit.Goals as goal
 
 pub returns-then-value-lt10 : goal.returns-then-value-lt10

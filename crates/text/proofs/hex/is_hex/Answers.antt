@@ -2,7 +2,6 @@
 use mathlib.Core.Path.{◌∙◌}
 use native.Mathlib.Omega.{arith}
 use Rattle.text.proofs.HexLaws.{other_length, right_length}
-use borrow.Author.Rules.{rules}
 use Rattle.text.proofs.hex.is_hex.Goals as goal
 
 pub returns-then-field-ne0 : goal.returns-then-field-ne0

@@ -1,13 +1,9 @@
 -- `text::hex::put_hex` meets its contract. Assumes nothing.
-use mathlib.Core.Path.{◌≡◌, refl}
+use mathlib.Core.Path.{◌≡◌}
 use Prim.Native.Nat.{◌+◌, ◌*◌, ◌-◌, ◌≤◌}
-use native.Mathlib.Omega.{arith}
-use lib.ListN.{length, drop, length-set}
+use lib.ListN.{length, drop}
 use lib.Seq.{sets}
 use Rattle.text.specs.Hex.{hexes_of}
-use Rattle.text.proofs.WritingLaws.{enough, too_little, unwritten, written}
-use Rattle.text.proofs.HexLaws.{length_hexes, hexes_on, hexes_end}
-use borrow.Author.Rules.{rules}
 use Rattle.text.proofs.hex.put_hex.Given as goal
 
 abbrev pub invariant-loop-i : goal.invariant-loop-i

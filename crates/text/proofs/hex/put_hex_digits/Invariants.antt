@@ -1,14 +1,9 @@
 -- `text::hex::put_hex_digits` meets its contract. Assumes nothing.
-use mathlib.Core.Path.{◌≡◌, refl}
+use mathlib.Core.Path.{◌≡◌}
 use Prim.Native.Nat.{◌+◌, ◌≤◌}
-use native.Mathlib.Omega.{arith}
-use lib.ListN.{length, length-set}
+use lib.ListN.{length}
 use lib.Seq.{sets}
 use Rattle.text.specs.Hex.{hex_digits_of}
-use Rattle.text.proofs.WritingLaws.{enough, too_little, unwritten, written}
-use Rattle.text.proofs.Digits.{stored_on, stored_end}
-use Rattle.text.proofs.HexLaws.{last_hexes, length_hex_digits}
-use borrow.Author.Rules.{rules}
 use Rattle.text.proofs.hex.put_hex_digits.Given as goal
 
 abbrev pub invariant-loop-i : goal.invariant-loop-i

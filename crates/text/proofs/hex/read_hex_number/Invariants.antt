@@ -1,13 +1,8 @@
 -- `text::hex::read_hex_number` meets its contract. Assumes nothing.
-use Prim.Native.Nat.{ℕ, ◌-◌, ◌^◌, ◌≤◌, ◌<◌}
-use native.Mathlib.Omega.{arith}
-use mathlib.Core.List.{List}
-use mathlib.Core.Path.{◌≡◌, refl, sym, ◌∙◌}
+use Prim.Native.Nat.{◌-◌, ◌^◌, ◌≤◌, ◌<◌}
+use mathlib.Core.Path.{◌≡◌}
 use lib.ListN.{drop}
 use Rattle.text.specs.Hex.{all_hex, hex_value_from}
-use Rattle.text.proofs.Digits.{value_on, value_end}
-use Rattle.text.proofs.HexLaws.{hexes, hex_bad, hex_good, hex_end, hex_wide, hex_other, hex_odd, hex_number, hexes_below, fifteen}
-use borrow.Author.Rules.{rules}
 use Rattle.text.proofs.hex.read_hex_number.Given as goal
 
 abbrev pub invariant-loop-i : goal.invariant-loop-i

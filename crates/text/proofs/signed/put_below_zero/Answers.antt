@@ -9,7 +9,6 @@ use Rattle.text.specs.Decimals.{decimal_of}
 use Rattle.text.specs.Code.{minus_and}
 use Rattle.text.proofs.WritingLaws.{enough, too_little, unwritten, written, stored, then}
 use Rattle.text.proofs.DecimalDigits.{length_decimal}
-use borrow.Author.Rules.{rules}
 use Rattle.text.proofs.signed.put_below_zero.Goals as goal
 
 pub overflow_add-places : goal.overflow_add-places
@@ -17,24 +16,20 @@ overflow_add-places c = let h = length_decimal 10 9 c.args.digits (omega arith) 
 
 pub returns-then-not-has_room : goal.returns-then-not-has_room
 returns-then-not-has_room c =
-    let counted = c.before.before in
-    let a = counted.args in
-    let over = too_little _ a.at a.out-1.now c.has_room.ensures c.if-not-has_room.true-raw in
-    let long : length (minus_and a.digits) ≡ 1 + counted.places.result = omega (arith, counted.places.ensures) in
-    unwritten (length (minus_and a.digits)) (minus_and a.digits) a.at a.out-1.now (rw long over)
+    let a = c.args in
+    let over = too_little _ a.at a.out.now c.has_room.ensures c.if-not-has_room.true in
+    let long : length (minus_and a.digits) ≡ 1 + c.places.result = omega (arith, c.places.ensures) in
+    let none = unwritten (length (minus_and a.digits)) (minus_and a.digits) a.at a.out.now (rw long over) in
+    record { value = none.0; out_after = none.1 }
 
 pub returns : goal.returns
 returns c =
-    let digits-put = c.before.before in
-    let digits-lent = digits-put.before in
-    let minus-put = digits-lent.before.before.before in
-    let roomy = minus-put.before.before in
-    let counted = roomy.before.before in
-    let a = counted.args in
+    let a = c.args in
     let text = minus_and a.digits in
-    let room = enough _ a.at a.out-1.now roomy.has_room.ensures roomy.if-not-has_room.false-raw in
-    let fits : a.at + length text ≤ length a.out-1.now = omega (arith, room, counted.places.ensures) in
-    written (length text) text a.at a.out-1.now fits
-    (then (minus ∷ []) (decimal_of a.digits) a.at a.out-1.now fits
-    (stored 1 (minus ∷ []) a.at a.out-1.now (omega arith) minus-put.put_byte-next.ensures)
-    digits-put.put_decimal.ensures)
+    let room = enough _ a.at a.out.now c.has_room.ensures c.if-not-has_room.false in
+    let fits : a.at + length text ≤ length a.out.now = omega (arith, room, c.places.ensures) in
+    let put = written (length text) text a.at a.out.now fits
+    (then (minus ∷ []) (decimal_of a.digits) a.at a.out.now fits
+    (stored 1 (minus ∷ []) a.at a.out.now (omega arith) (c.put_byte-next.ensures.value, c.put_byte-next.ensures.out_after))
+    (c.put_decimal.ensures.value, c.put_decimal.ensures.out_after))
+    in record { value = put.0; out_after = put.1 }

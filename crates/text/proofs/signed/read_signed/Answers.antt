@@ -1,7 +1,6 @@
 -- `text::signed::read_signed` meets its contract. Assumes nothing.
 use native.Mathlib.Omega.{arith}
 use Rattle.text.proofs.SignedLaws.{signed_none, signed_minus, signed_bad, signed-≤, signed_good}
-use borrow.Author.Rules.{rules}
 use Rattle.text.proofs.signed.read_signed.Goals as goal
 
 pub returns-then-field-eq0 : goal.returns-then-field-eq0
@@ -11,17 +10,11 @@ pub returns-then-field-eq45 : goal.returns-then-field-eq45
 returns-then-field-eq45 c = signed_minus _ c.if-field-eq45.true c.negative.ensures
 
 pub returns-in_default : goal.returns-in_default
-returns-in_default c = signed_bad _ c.if-field-eq45.false c.read_byte.ensures c.enum_told-1.given.1
+returns-in_default c = signed_bad _ c.if-field-eq45.false c.read_byte.ensures c.in_default.is
 
 pub overflow_cast-result : goal.overflow_cast-result
 overflow_cast-result c =
-    let known = c.before in
-    let read = known.before.before in
-    let h = signed-≤ _ read.if-field-eq45.false read.read_byte.ensures _ known.number-1.given.1 in
-    record { sfits = omega arith }
+    let h = signed-≤ _ c.if-field-eq45.false c.read_byte.ensures _ c.in-Is.is in record { sfits = omega arith }
 
 pub returns : goal.returns
-returns c =
-    let known = c.before in
-    let read = known.before.before in
-    signed_good _ read.if-field-eq45.false read.read_byte.ensures _ known.number-1.given.1
+returns c = signed_good _ c.if-field-eq45.false c.read_byte.ensures _ c.in-Is.is

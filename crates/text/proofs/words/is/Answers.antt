@@ -1,11 +1,7 @@
 -- `text::words::is` meets its contract. Assumes nothing.
-use mathlib.Core.Path.{◌≡◌, sym, ◌∙◌}
-use Prim.Native.Nat.{◌-◌, ◌≤◌}
+use mathlib.Core.Path.{sym, ◌∙◌}
 use native.Mathlib.Omega.{arith}
-use lib.ListN.{length, drop}
-use Rattle.text.specs.Words.{same_text}
 use Rattle.text.proofs.WordLaws.{same_on, same_off, same_end, same_length}
-use borrow.Author.Rules.{rules}
 use Rattle.text.proofs.words.is.Goals as goal
 
 pub returns-then-field-word : goal.returns-then-field-word

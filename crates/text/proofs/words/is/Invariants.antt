@@ -1,11 +1,8 @@
 -- `text::words::is` meets its contract. Assumes nothing.
-use mathlib.Core.Path.{◌≡◌, sym, ◌∙◌}
+use mathlib.Core.Path.{◌≡◌}
 use Prim.Native.Nat.{◌-◌, ◌≤◌}
-use native.Mathlib.Omega.{arith}
 use lib.ListN.{length, drop}
 use Rattle.text.specs.Words.{same_text}
-use Rattle.text.proofs.WordLaws.{same_on, same_off, same_end, same_length}
-use borrow.Author.Rules.{rules}
 use Rattle.text.proofs.words.is.Given as goal
 
 abbrev pub invariant-loop-i : goal.invariant-loop-i

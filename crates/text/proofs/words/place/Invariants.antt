@@ -1,12 +1,8 @@
 -- `text::words::place` meets its contract. Assumes nothing.
 use mathlib.Core.Path.{◌≡◌}
 use Prim.Native.Nat.{◌+◌, ◌-◌, ◌≤◌}
-use native.Mathlib.Omega.{arith}
 use lib.ListN.{length, drop}
 use Rattle.text.specs.Words.{words_of, place_among}
-use Rattle.text.proofs.FieldLaws.{found-≤}
-use Rattle.text.proofs.WordLaws.{place_here, place_on, place_end}
-use borrow.Author.Rules.{rules}
 use Rattle.text.proofs.words.place.Given as goal
 
 abbrev pub invariant-loop-from : goal.invariant-loop-from

@@ -1,12 +1,8 @@
 -- `text::writing::put_text` meets its contract. Assumes nothing.
-use mathlib.Core.Path.{◌≡◌, refl, ap}
-use Prim.Native.Nat.{ℕ, ◌+◌, ◌-◌, ◌≤◌}
-use native.Mathlib.Nat.{add-zero}
-use native.Mathlib.Omega.{arith}
-use lib.ListN.{length, drop, length-set}
+use mathlib.Core.Path.{◌≡◌}
+use Prim.Native.Nat.{◌+◌, ◌-◌, ◌≤◌}
+use lib.ListN.{length, drop}
 use lib.Seq.{sets}
-use Rattle.text.proofs.WritingLaws.{enough, too_little, unwritten, written, copy_on, copy_end}
-use borrow.Author.Rules.{rules}
 use Rattle.text.proofs.writing.put_text.Given as goal
 
 abbrev pub invariant-loop-i : goal.invariant-loop-i
