@@ -1,6 +1,0 @@
-pub mod Below
-pub mod Digits
-pub mod Only
-pub mod Picked
-pub mod Joined
-pub mod Tabulated

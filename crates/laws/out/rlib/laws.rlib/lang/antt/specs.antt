@@ -1,4 +1,0 @@
-pub mod Bit
-pub mod Packed
-pub mod Pick
-pub mod Tabulate
