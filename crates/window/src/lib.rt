@@ -84,7 +84,7 @@ enum PhaseRead {
 }
 
 // The eight data bytes are one number, the first byte on top.
-#[derive(Drop)]
+#[derive(Clone, Copy)]
 pub struct PhaseDecode {
     pub bit_len: u8,
     pub phase_ticks: i8,
@@ -105,7 +105,7 @@ impl PhaseDecode {
     }
 }
 
-#[derive(Drop)]
+#[derive(Clone, Copy)]
 pub struct SampleWindow {
     bytes: [u8; WINDOW_LEN],
     len: u16,
