@@ -6,7 +6,7 @@ ghost use Rattle.lengths.specs.Lengths.{holds, with_length, set_of, sniffed_leng
 ghost use Rattle.lengths.specs.Constants.{public_constants};
 
 // Bit n of the number stands for the length n.
-#[derive(Drop)]
+#[derive(Clone, Copy)]
 pub struct BitLengths(u32);
 
 impl BitLengths {
