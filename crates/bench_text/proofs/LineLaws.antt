@@ -1,12 +1,12 @@
 -- Each way in which a line is answered, by the tests of the code. Assumes nothing.
 use Prim.Native.Nat.{ℕ, zero, suc, ◌-◌, ◌≤◌, ◌<◌}
 use native.Mathlib.Omega.{arith}
-use mathlib.Core.Bool.{Bool, true, false, not, and-false}
+use mathlib.Core.Bool.{Bool, true, false, and-false}
 use mathlib.Core.List.{List, ◌++◌}
 use mathlib.Core.Path.{◌≡◌, refl, sym, ap, ◌∙◌}
 use lib.ListN.{length, take, drop, replicate}
 use lib.Seq.{length-take-le}
-use borrow.Author.Tests.{le-leb, lt-leb, eq-eqb, ne_eqb, not-true, not-false}
+use borrow.Author.Tests.{le-leb, lt-leb, eq-eqb, ne_eqb}
 use Rattle.laws.specs.Pick.{pick}
 use Rattle.laws.proofs.Picked.{on_true, on_false}
 use Rattle.text.specs.Letters.{word, tab}
@@ -100,22 +100,22 @@ module _ (l : List ℕ) where
         unfolding judged_by is_short has_numbers
         by_numbers = rw (on_true (le-leb (length l) line_max short), on_true fields, silence.0, count.0, by_samples) (on_true refl _ _)
 
-        pub no_samples : not good ≡ true → refused_line BadSamples ≡ book_line_of l
+        pub no_samples : good ≡ false → refused_line BadSamples ≡ book_line_of l
         unfolding book_line_as
-        no_samples bad = rw (by_numbers, on_false (not-true good bad))
+        no_samples bad = rw (by_numbers, on_false bad)
 
         -- the bytes that were read, with zeros past them
-        pub good_line_lem : not good ≡ false → {bytes : List ℕ} → bytes ≡ filled_by own (take n (zeros count_max))
+        pub good_line_lem : good ≡ true → {bytes : List ℕ} → bytes ≡ filled_by own (take n (zeros count_max))
             → good_line (record { silence = s; count = n; samples = bytes ++ drop n (zeros count_max) }) ≡ book_line_of l
         unfolding book_line_as capture_with filled_by
         good_line_lem taken {bytes} filled =
             rw (
               filled,
-              on_true (sym e ∙ not-false good taken),
+              on_true (sym e ∙ taken),
               zeros_behind count_max n,
               same,
               by_numbers,
-              on_true (not-false good taken),
+              on_true taken,
               silence.1,
               count.1,
             )
