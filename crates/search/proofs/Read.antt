@@ -6,7 +6,6 @@ use Prim.Native.Nat.{ℕ, zero, suc, ◌-◌}
 use lib.Dec.{ltb, eqb}
 use lib.IntN.{ℤ, pos}
 use lib.ListN.{drop}
-use Rattle.laws.specs.Pick.{pick}
 use Rattle.laws.proofs.Picked.{cases}
 use Rattle.lengths.specs.declared.BitLengths.{BitLengths}
 use Rattle.window.specs.declared.SampleWindow.{SampleWindow}
@@ -14,13 +13,10 @@ use Rattle.window.specs.declared.PhaseDecode.{PhaseDecode}
 use Rattle.window.specs.Phase.{PhaseBits, failed, weighed, bits_of, decode_of, phase_of}
 use Rattle.search.specs.declared.Found.{Found}
 use Rattle.search.specs.declared.Found.TheVariants.{Decode, Nothing}
-use Rattle.search.specs.declared.SearchAnswer.{SearchAnswer}
-use Rattle.search.specs.declared.PhaseSearch.{PhaseSearch}
-use Rattle.search.specs.declared.PhaseSearch.TheVariants.{Done}
 use Rattle.search.specs.declared.BestPhaseSearch.{BestPhaseSearch}
 use Rattle.search.specs.declared.Stepped.{Stepped}
 use Rattle.search.specs.Search.{is_preferred, kept_better, better_of, new_of, first_of, ended_of, scanned_of, scan_phases, scan_phase, step_of}
-use Rattle.search.specs.Answers.{ends_at_once, ends_with, best_of, phases_left, SaysFound, SaysAnswer, SaysStep}
+use Rattle.search.specs.Answers.{ends_at_once, ends_with, best_of, phases_left, SaysFound, SaysStep}
 use Rattle.search.specs.Steps.{after_steps, DecodesAreRead}
 use Rattle.search.proofs.Telling.{same_decode, none_such, says}
 

@@ -1,9 +1,8 @@
 -- What each case of an answer says is so. Assumes nothing.
-use mathlib.Core.Path.{◌≡◌, refl, sym, ◌∙◌}
+use mathlib.Core.Path.{◌≡◌, refl}
 use mathlib.Core.Bool.{Bool, true, false}
 use Prim.Native.Nat.{ℕ, zero, suc, ◌-◌, ◌<◌}
 use native.Mathlib.Omega.{arith}
-use lib.Dec.{ltb}
 use lib.IntN.{pos}
 use lib.ListN.{drop_of_length-le}
 use borrow.Author.Tests.{ltb-true, ltb-false, ne_eqb, le-leb}
@@ -16,12 +15,11 @@ use Rattle.window.specs.Phase.{phase_of}
 use Rattle.search.specs.declared.Found.{Found}
 use Rattle.search.specs.declared.Found.TheVariants.{Decode, Nothing}
 use Rattle.search.specs.declared.SearchAnswer.{SearchAnswer}
-use Rattle.search.specs.declared.PhaseSearch.{PhaseSearch}
-use Rattle.search.specs.declared.PhaseSearch.TheVariants.{Searching, Done}
+use Rattle.search.specs.declared.PhaseSearch.TheVariants.{Done}
 use Rattle.search.specs.declared.BestPhaseSearch.{BestPhaseSearch}
 use Rattle.search.specs.declared.Stepped.{Stepped}
-use Rattle.search.specs.Search.{is_preferred, accepted_of, search_with, done, first_of, ended_of, scanned_of, scan_phases, scan_phase, step_of, first_done, run_of}
-use Rattle.search.specs.Answers.{ends_at_once, ends_with, best_of, SaysFound, SaysAnswer, is_over, SaysStep}
+use Rattle.search.specs.Search.{is_preferred, accepted_of, search_with, first_of, ended_of, scanned_of, scan_phases, scan_phase, step_of, first_done, run_of}
+use Rattle.search.specs.Answers.{ends_with, best_of, SaysFound, SaysAnswer, SaysStep}
 use Rattle.search.proofs.Steps.{first_by, ended_step}
 use Rattle.search.proofs.Runs.{whole_of, five_suffice, run_whole}
 

@@ -1,5 +1,5 @@
 -- Document 01, "Search": what each answer of a step or a run says about the search and the window. Assumes nothing.
-use Rattle.std.specs.Prelude.{ℕ, ◌-◌, ◌≤◌, ◌<◌, Bool, true, false, ◌&&◌, ◌||◌, List, [], ◌∷◌, ◌≡◌, eqb, leb, ℤ, pos, drop}
+use Rattle.std.specs.Prelude.{◌-◌, ◌≤◌, ◌<◌, Bool, true, false, ◌&&◌, ◌||◌, List, [], ◌∷◌, ◌≡◌, eqb, leb, ℤ, pos, drop}
 use Rattle.laws.specs.Pick.{pick}
 use Rattle.lengths.specs.declared.BitLengths.{BitLengths}
 use Rattle.window.specs.declared.SampleWindow.{SampleWindow}

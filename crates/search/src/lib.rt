@@ -34,26 +34,26 @@ struct PublicConstants {
 }
 
 // A decode, or none: the Rust's Option<PhaseDecode>.
-#[derive(Drop)]
+#[derive(Clone, Copy)]
 pub enum Found {
     Decode(PhaseDecode),
     Nothing,
 }
 
 // What a finished search hands out: the decode that it found, if any, and the number of steps taken.
-#[derive(Drop)]
+#[derive(Clone, Copy)]
 pub struct SearchAnswer {
     pub found: Found,
     pub steps: u8,
 }
 
-#[derive(Drop)]
+#[derive(Clone, Copy)]
 pub enum PhaseSearch {
     Searching,
     Done(SearchAnswer),
 }
 
-#[derive(Drop)]
+#[derive(Clone, Copy)]
 pub struct BestPhaseSearch {
     preferred: BitLengths,
     step: u8,
@@ -61,7 +61,7 @@ pub struct BestPhaseSearch {
 }
 
 // A step gives the search back beside its answer.
-#[derive(Drop)]
+#[derive(Clone, Copy)]
 pub struct Stepped {
     pub search: BestPhaseSearch,
     pub answer: PhaseSearch,

@@ -1,10 +1,10 @@
 -- `search::scan_phase` meets its contract. Assumes nothing.
 use mathlib.Core.Path.{◌≡◌, refl}
 use Prim.Native.Nat.{ℕ, zero, suc}
+use native.Mathlib.Omega.{arith}
 use lib.IntN.{pos}
 use Rattle.search.specs.Search.{scan_phase}
-use Rattle.search.proofs.scan_phase.Statement.{statement}
-use Rattle.search.proofs.scan_phase.Tie as tie
+use Rattle.search.proofs.scan_phase.Goals as goal
 
 rest : (n : ℕ) → (n ≡ 0 → ⊥) → (n ≡ 1 → ⊥) → (n ≡ 2 → ⊥) → pos 2 ≡ scan_phase n
 unfolding scan_phase
@@ -14,20 +14,17 @@ rest (suc (suc zero)) a b d = absurd (d refl)
 rest (suc (suc (suc zero))) a b d = refl
 rest (suc (suc (suc (suc n)))) a b d = refl
 
-returns : tie.Need-returns
+pub returns-in-0 : goal.returns-in-0
 unfolding scan_phase
-returns c = rw c.match.keys1
+returns-in-0 c = rw c.in-0.is
 
-returns_2 : tie.Need-returns-2
+pub returns-in-1 : goal.returns-in-1
 unfolding scan_phase
-returns_2 c = rw c.match.keys2
+returns-in-1 c = rw c.in-1.is
 
-returns_3 : tie.Need-returns-3
+pub returns-in-2 : goal.returns-in-2
 unfolding scan_phase
-returns_3 c = rw c.match.keys3
+returns-in-2 c = rw c.in-2.is
 
-returns_4 : tie.Need-returns-4
-returns_4 c = rest _ c.match.rest.0.0.1 c.match.rest.0.1 c.match.rest.1
-
-pub scan_phase_spec : {M : Type 1} → statement M
-scan_phase_spec = tie.close (tie.spec returns returns_2 returns_3 returns_4)
+pub returns-in_default : goal.returns-in_default
+returns-in_default c = rest _ (λ e. omega arith) (λ e. omega arith) (λ e. omega arith)
