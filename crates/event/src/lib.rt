@@ -32,13 +32,13 @@ struct PublicConstants {
 }
 
 // What the search found, if the interrupt has already searched.
-#[derive(Drop)]
+#[derive(Clone, Copy)]
 pub enum IsrDecode {
     NotDecoded,
     Decoded(Found),
 }
 
-#[derive(Drop)]
+#[derive(Clone, Copy)]
 pub struct RxCompletedEvent {
     pub samples: [u8; DALI_RX_SAMPLE_BUF_LEN],
     pub sample_count: u16,
