@@ -59,6 +59,7 @@ fn magnitude(number: i8) -> u32
     }
 }
 
+#[tactic(auto, using(crate::proofs::SignedLaws::with_minus, crate::proofs::SignedLaws::without_minus))]
 pub fn put_signed(out: &mut [u8], at: usize, number: i8) -> usize
     ensures value { result ≡ place_past (signed_of number) at out.old }
     ensures out_after { out.new ≡ buffer_with (signed_of number) at out.old }
