@@ -12,7 +12,7 @@ use lengths::{BACKWARD_FRAME_BIT_LENGTHS, BitLengths, SNIFFED_BIT_LENGTHS};
 use search::{BestPhaseSearch, Found};
 use window::SampleWindow;
 
-#[derive(Drop)]
+#[derive(Clone, Copy)]
 pub enum SniffedFrame {
     Forward16(u16),
     Backward8(u8),
@@ -21,7 +21,7 @@ pub enum SniffedFrame {
     DecodeFailed,
 }
 
-#[derive(Drop)]
+#[derive(Clone, Copy)]
 pub struct SniffedDecode {
     pub frame: SniffedFrame,
     pub phase_ticks: i8,
@@ -29,7 +29,7 @@ pub struct SniffedDecode {
 }
 
 // The Rust's Option<u8>.
-#[derive(Drop)]
+#[derive(Clone, Copy)]
 pub enum BackwardByte {
     Byte(u8),
     NoByte,
@@ -117,7 +117,7 @@ pub fn is_line_held(ev: RxCompletedEvent) -> bool
 }
 
 // The longest low run so far, and the low run at the last tick, which is 0 if that was high.
-#[derive(Drop)]
+#[derive(Clone, Copy)]
 struct LowRuns {
     best: u16,
     run: u16,
