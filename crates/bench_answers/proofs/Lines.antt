@@ -1,7 +1,7 @@
 -- Laws of the answer lines: how they are written in parts, and how long they are at most. Assumes nothing.
 use Prim.Native.Nat.{ℕ, suc, ◌+◌, ◌^◌, ◌≤◌, ◌<◌}
 use native.Mathlib.Omega.{arith}
-use mathlib.Core.Bool.{Bool, true, false, not}
+use mathlib.Core.Bool.{Bool, true, false}
 use mathlib.Core.List.{List, [], ◌∷◌, ◌++◌, append_assoc}
 use mathlib.Core.Path.{◌≡◌, ap, ◌∙◌}
 use lib.ListN.{length, length-append}
@@ -56,10 +56,10 @@ Line most text place before after next =
     (next ≡ place_after most text place before) × ((after ≡ buffer_after most text place before) × (next ≤ place + most))
 
 module _ (most : ℕ) (text : List ℕ) (place : ℕ) (before : List ℕ) {test : Bool} (e : test ≡ room_at most place before) where
-  pub no_line : not test ≡ true → Line most text place before before place
+  pub no_line : test ≡ false → Line most text place before before place
   no_line t = let w = unwritten most text place before (too_little most place before e t) in (w.0, (w.1, omega arith))
 
-  pub line : not test ≡ false → length text ≤ most → {after : List ℕ} {next : ℕ} → Wrote text place before after next → Line most text place before after next
+  pub line : test ≡ true → length text ≤ most → {after : List ℕ} {next : ℕ} → Wrote text place before after next → Line most text place before after next
   line t short w =
       let room = enough most place before e t in
       let s = w.whole (omega arith) in

@@ -63,7 +63,7 @@ fn fill(field: &[u8], bytes: &mut [u8])
 }
 
 // Fills the buffer and answers true, if the field is two hex digits for each of its bytes. If not, the buffer stays as it was.
-#[tactic(auto, using(crate::proofs::HexLaws::hex_says, crate::proofs::HexLaws::not_filled, crate::proofs::HexLaws::is_filled))]
+#[tactic(auto, using(crate::proofs::HexLaws::hex_says, crate::proofs::HexLaws::not_filled))]
 pub fn read_hex(field: &[u8], bytes: &mut [u8]) -> bool
     ensures value { result ≡ is_hex (length bytes.old) field.now }
     ensures bytes_after { bytes.new ≡ filled_by field.now bytes.old }
