@@ -12,7 +12,7 @@ use rx_decode::{SniffedDecode, SniffedFrame};
 use search::{BestPhaseSearch, Found};
 use window::SampleWindow;
 
-#[derive(Drop)]
+#[derive(Clone, Copy)]
 pub struct Reading {
     pub decode: SniffedDecode,
     pub low_run: u16,
