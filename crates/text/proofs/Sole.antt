@@ -6,7 +6,7 @@ use Rattle.text.proofs.fields.find.Reads as find
 use Rattle.text.proofs.fields.first.Reads as first
 use Rattle.text.proofs.fields.count.Reads as count
 use Rattle.text.proofs.fields.field.Reads as field
-use Rattle.text.proofs.words.is.Reads as is_Is_word
+use Rattle.text.proofs.words.is.Reads as is_word
 use Rattle.text.proofs.words.place.Reads as place
 use Rattle.text.proofs.decimals.read_number.Reads as read_number
 use Rattle.text.proofs.decimals.read_byte.Reads as read_byte
@@ -35,7 +35,7 @@ pub field_sole : (κs : _) (a : _) (r s : _) (x y : _) → field.Post κs a r x 
 field_sole κs a r s x y = alike
 
 -- ---- the words
-pub is_sole : (κs : _) (a : _) (x : _) → Only (λ r. is_Is_word.Post κs a r x)
+pub is_sole : (κs : _) (a : _) (x : _) → Only (λ r. is_word.Post κs a r x)
 is_sole κs a x = named _
 
 pub place_sole : (κs : _) (a : _) (x : _) → Only (λ r. place.Post κs a r x)

@@ -1,7 +1,7 @@
 -- Document 01, "The bench reader": letters, words and marks as their bytes. Assumes nothing.
 use Rattle.std.specs.Prelude.{ℕ, List, [], ◌∷◌}
 use Prim.Native.Char.{Char, code}
-use Prim.Native.String.{String, [] as no-letter, ◌∷◌ as ◌then◌}
+use Prim.Native.String.{String, [] as no_letter, ◌∷◌ as ◌then◌}
 
 -- the byte of a letter, `letter "C"`
 abbrev pub letter : Char → ℕ
@@ -9,7 +9,7 @@ letter character = code character
 
 -- the bytes of a word, one after the other, `word "BAD"`
 abbrev pub word : String → List ℕ
-word no-letter = []
+word no_letter = []
 word (first then rest) = letter first ∷ word rest
 
 -- ---- the marks of the bench's texts

@@ -9,7 +9,7 @@ use denote.RattleType.{RattleType}
 use denote.Laws.{Is, Typed, Tells, Makes}
 use denote.Plain.{bool_Tells, bool_Makes}
 use denote.Builtin.{bool}
-use denote.Struct.Declared.{Declared, row, fields as all-fields}
+use denote.Struct.Declared.{Declared, row, fields as all_fields}
 use denote.Struct.Struct.{Plains}
 use denote.Struct.Laws.{Laws, val, vals, tells, lawful, makes}
 
@@ -33,7 +33,7 @@ pub record Data {M : Type 1} {𝓤 : Ura M} (𝓛 : Logic 𝓤) : Type 2 where
 
 -- a struct of plain data, and a truth value
 module _ {M : Type 1} {𝓤 : Ura M} (𝓛 : Logic 𝓤) where
-  abbrev pub struct : (R : Declared) (L : Laws R) → Plains (all-fields R) → Data 𝓛
+  abbrev pub struct : (R : Declared) (L : Laws R) → Plains (all_fields R) → Data 𝓛
   struct R L pl = record { row = row R; val = val R L; tells = tells R L; makes = makes R pl 𝓛; type = head_of (row R).mir; typed = λ x is. lone (row R).mir (val R L x) ((lawful R L 𝓛).typed x (vals R L x) is) }
 
   abbrev pub truth : Data 𝓛
