@@ -40,7 +40,7 @@ struct PublicConstants {
 }
 
 // What the END line tells: how many lines there were, how many of them were decoded, and how many refused.
-#[derive(Drop)]
+#[derive(Clone, Copy)]
 pub struct Counts {
     pub lines: u32,
     pub decoded: u32,

@@ -52,7 +52,7 @@ pub fn refusal_number(refusal: Refusal) -> u32
 }
 
 // What a good line says: the silence in ticks, the count, and the samples, which are 0 past the count.
-#[derive(Drop)]
+#[derive(Clone, Copy)]
 pub struct Capture {
     pub silence: u8,
     pub count: u8,

@@ -37,7 +37,7 @@ struct PublicConstants {
     finish_max: usize,
 }
 
-#[derive(Drop)]
+#[derive(Clone, Copy)]
 pub struct BookReader {
     // The unfinished line, whose LF has not come yet.
     lines: Lines,

@@ -27,7 +27,7 @@ struct PublicConstants {
 }
 
 // The first `len` bytes are the unfinished line, as far as there is room for it.
-#[derive(Drop)]
+#[derive(Clone, Copy)]
 pub struct Lines {
     pub held: [u8; LINE_ROOM],
     pub len: usize,
