@@ -26,5 +26,5 @@ returns c =
     let behind_phase = then (put (word "\t") (c.put_byte-at-2.ensures.value, c.put_byte-at-2.ensures.out_after)) tail in
     let middle = then (put (word "\t") (c.put_byte-at.ensures.value, c.put_byte-at.ensures.out_after)) (then (put (signed_of phase) (signed_at, signed_out)) behind_phase) in
     let l = line _ _ _ _ c.has_room.ensures c.if-not-has_room.false short
-        (rw (row_parts a.number a.capture a.reading) (then c.put_field-at.ensures (then c.put_frame-at.ensures middle)))
+    (rw (row_parts a.number a.capture a.reading) (then c.put_field-at.ensures (then c.put_frame-at.ensures middle)))
     in record { value = l.0; out_after = l.1.0; upper_bound = l.1.1 }
