@@ -114,6 +114,7 @@ impl BestPhaseSearch {
         }
     }
 
+    #[tactic(auto, using(crate::proofs::Telling::says_of), unfolding(crate::specs::Search::step_of, laws::specs::Pick::pick))]
     pub fn step(self, window: SampleWindow) -> Stepped
         ensures value { result ≡ step_of self window }
         ensures says_step { SaysStep result.answer self window }
@@ -154,6 +155,7 @@ impl BestPhaseSearch {
         }
     }
 
+    #[tactic(auto, unfolding(crate::specs::Search::scanned_of, laws::specs::Pick::pick))]
     fn after_scan(self, candidate: PhaseDecode) -> Stepped
         requires { self.step ≤ 4 }
         ensures { result ≡ scanned_of self candidate }
@@ -221,6 +223,7 @@ fn keep_better(best: Found, candidate: PhaseDecode, preferred: BitLengths) -> Fo
 }
 
 // A decode of fewer than three bits is none.
+#[tactic(auto, unfolding(crate::specs::Search::accepted_of, laws::specs::Pick::pick))]
 fn accepted(found: Found) -> Found
     ensures { result ≡ accepted_of found }
 {

@@ -1,5 +1,5 @@
 -- `BestPhaseSearch::step` meets its contract. Assumes nothing.
-use borrow.Author.Tests.{eq-eqb, ne_eqb, lt-ltb, le-ltb}
+use borrow.Author.Tests.{eq-eqb, ne_eqb, le-ltb}
 use Rattle.laws.proofs.Picked.{on_true, on_false}
 use Rattle.search.specs.Search.{step_of}
 use Rattle.search.proofs.Steps.{scan_back}
@@ -10,12 +10,6 @@ pub returns-then-step-eq0 : goal.returns-then-step-eq0
 unfolding step_of
 returns-then-step-eq0 c =
     let told = tells c.args.self c.args.window c.after_first.result (rw (c.after_first.ensures, c.decode_phase-first.ensures, on_true (eq-eqb _ _ c.if-step-eq0.true))) in
-    record { value = told.0; says_step = told.1 }
-
-pub returns-then-step-gt-PHASE_SCAN_COUNT : goal.returns-then-step-gt-PHASE_SCAN_COUNT
-unfolding step_of
-returns-then-step-gt-PHASE_SCAN_COUNT c =
-    let told = tells c.args.self c.args.window c.ended.result (rw (c.ended.ensures, on_false (ne_eqb _ _ c.if-step-eq0.false), on_true (lt-ltb _ _ c.if-step-gt-PHASE_SCAN_COUNT.true))) in
     record { value = told.0; says_step = told.1 }
 
 pub returns : goal.returns
