@@ -8,7 +8,7 @@ ghost use Rattle.capture.specs.Code.{word_with};
 use window::DALI_RX_SAMPLE_BUF_LEN;
 
 // A word holds eight bytes, the first at its low end. Words that no index selects can stay in registers, so a tick copies no array.
-#[derive(Drop)]
+#[derive(Clone, Copy)]
 pub struct Samples {
     w0: u64,
     w1: u64,

@@ -1,9 +1,9 @@
 -- The half-bits of a buffer as one number: how the code makes it of the bytes, and each half-bit in it. Assumes nothing.
-use mathlib.Core.Path.{◌≡◌, refl, sym, ◌∙◌, ap}
+use mathlib.Core.Path.{◌≡◌, sym, ◌∙◌, ap}
 use mathlib.Core.List.{List}
-use Prim.Native.Nat.{ℕ, zero, suc, ◌+◌, ◌-◌, ◌*◌, ◌/◌, ◌%◌, ◌^◌, ◌<◌, ◌≤◌}
+use Prim.Native.Nat.{ℕ, suc, ◌+◌, ◌-◌, ◌*◌, ◌/◌, ◌%◌, ◌^◌, ◌<◌, ◌≤◌}
 use native.Mathlib.Omega.{arith}
-use native.Mathlib.Nat.{mod-lt, mod-eq_of_lt, div-one, add-zero, zero-div, lt_of_lt_of_le}
+use native.Mathlib.Nat.{mod-eq_of_lt, div-one, add-zero, zero-div, lt_of_lt_of_le}
 use native.Mathlib.Numerals.{add-one}
 use lib.Pow.{pow_mono}
 use lib.Dec.{eqb}

@@ -60,7 +60,7 @@ struct PublicConstants {
     collision_break_ticks: u8,
 }
 
-#[derive(Drop)]
+#[derive(Clone, Copy)]
 pub enum BusState {
     Idle = 0,
     Rx = 1,
@@ -68,14 +68,14 @@ pub enum BusState {
     CollisionTx = 4,
 }
 
-#[derive(Drop)]
+#[derive(Clone, Copy)]
 pub enum RxState {
     Empty = 0,
     Receiving = 1,
     Completed = 2,
 }
 
-#[derive(Drop)]
+#[derive(Clone, Copy)]
 pub enum CollisionPolicy {
     Auto = 0,
     Off = 1,
@@ -164,14 +164,14 @@ impl RxState {
 }
 
 // For how many ticks the line has been high, and for how many low.
-#[derive(Drop)]
+#[derive(Clone, Copy)]
 pub struct Runs {
     pub high_run_ticks: u16,
     pub low_run_ticks: u16,
 }
 
 // Becoming Idle sets all of these fields.
-#[derive(Drop)]
+#[derive(Clone, Copy)]
 pub struct Bus {
     pub idlecnt: u16,
     pub bus_state: BusState,
@@ -181,7 +181,7 @@ pub struct Bus {
 }
 
 // How far a capture has come, and the silence before it.
-#[derive(Drop)]
+#[derive(Clone, Copy)]
 pub struct Rx {
     pub rx_pos: u16,
     pub rx_byte: u8,
@@ -191,7 +191,7 @@ pub struct Rx {
 }
 
 // What calls report. A start sets all of these fields.
-#[derive(Drop)]
+#[derive(Clone, Copy)]
 pub struct Told {
     pub tx_pre_idle: u16,
     pub rx_state: RxState,
@@ -201,7 +201,7 @@ pub struct Told {
 }
 
 // How far the station has sent its frame.
-#[derive(Drop)]
+#[derive(Clone, Copy)]
 pub struct Tx {
     pub tx_high: u8,
     pub tx_armed: u8,
@@ -212,7 +212,7 @@ pub struct Tx {
 
 // The half-bits to send, the first in the top bit of 64, and their length. Numbers stay in registers, while each tick would copy an array. The length
 // is as wide as the half-bits, since the compiler would copy a gap behind it byte by byte.
-#[derive(Drop)]
+#[derive(Clone, Copy)]
 pub struct TxHb {
     pub tx_hb_bits: u64,
     pub tx_hb_len: u64,
@@ -221,7 +221,7 @@ pub struct TxHb {
 // A station without its captures and half-bits. A function changes a group by one literal that names all its fields: the compiler then keeps the
 // fields apart. If it hands on an enum, it binds the group first, since the prover covers no enum that is read at depth. Timing decided the order of
 // the groups and of Tx's fields. No group has a gap between its fields.
-#[derive(Drop)]
+#[derive(Clone, Copy)]
 pub struct Core {
     pub told: Told,
     pub collision_policy: CollisionPolicy,
