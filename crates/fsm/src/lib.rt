@@ -40,7 +40,7 @@ struct PublicConstants {
     rx_buf_size: usize,
 }
 
-#[derive(Drop)]
+#[derive(Clone, Copy)]
 pub enum TxPollResult {
     Ok = 0,
     Collision = 3,
@@ -49,7 +49,7 @@ pub enum TxPollResult {
 }
 
 // A start call answers with the number of its refusal, or with 0 if it doesn't refuse.
-#[derive(Drop)]
+#[derive(Clone, Copy)]
 pub enum StartAnswer {
     Started = 0,
     Busy = 7,
@@ -101,7 +101,7 @@ pub fn restart_gate_for(release_to_edge_ticks: u8) -> u8
 
 // Three fields are public for `in_place`, which changes a station that it is lent. All promises hold whoever wrote them. The other two make the last
 // event: its capture, and how far that had come when it ended.
-#[derive(Drop)]
+#[derive(Clone, Copy)]
 pub struct DaliBitbangPhy {
     pub core: Core,
     pub tx_hb: TxHb,
@@ -112,32 +112,32 @@ pub struct DaliBitbangPhy {
 
 // Calls that change a station give it back beside their answer.
 
-#[derive(Drop)]
+#[derive(Clone, Copy)]
 pub struct Ticked {
     pub station: DaliBitbangPhy,
     pub driven_high: bool,
 }
 
-#[derive(Drop)]
+#[derive(Clone, Copy)]
 pub struct Started {
     pub station: DaliBitbangPhy,
     pub answer: StartAnswer,
 }
 
-#[derive(Drop)]
+#[derive(Clone, Copy)]
 pub struct Polled {
     pub station: DaliBitbangPhy,
     pub answer: TxPollResult,
 }
 
-#[derive(Drop)]
+#[derive(Clone, Copy)]
 pub struct TookIdle {
     pub station: DaliBitbangPhy,
     pub idle: bool,
 }
 
 // If no capture is complete, the event is a fresh one.
-#[derive(Drop)]
+#[derive(Clone, Copy)]
 pub struct TookRx {
     pub station: DaliBitbangPhy,
     pub completed: bool,
