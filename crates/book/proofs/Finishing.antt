@@ -10,7 +10,6 @@ use borrow.Author.Tests.{eq-eqb, ne_eqb, le-leb, lt-leb, leb-true, leb-false}
 use Rattle.laws.proofs.Picked.{on_true, on_false}
 use Rattle.text.specs.Writing.{place_after, buffer_after}
 use Rattle.text.proofs.WritingLaws.{sets_append, stored}
-use Rattle.lines.specs.declared.Lines.{Lines}
 use Rattle.lines.specs.Lines.{waiting}
 use Rattle.lines.specs.AnyChunks.{last_of}
 use Rattle.bench_answers.specs.declared.Counts.{Counts}

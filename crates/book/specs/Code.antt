@@ -2,7 +2,6 @@
 use Rattle.std.specs.Prelude.{ℕ, suc, ◌+◌, ◌≤◌, List, ◌≡◌, length}
 use Rattle.std.proofs.lemmas.List.Edits.{sets}
 use Rattle.bench_text.specs.declared.BookLineAnswer.{BookLineAnswer}
-use Rattle.bench_text.specs.declared.BookLine.{BookLine}
 use Rattle.bench_text.specs.declared.Capture.{Capture}
 use Rattle.bench_text.specs.Line.{no_capture, book_line_of}
 use Rattle.bench_answers.specs.declared.Counts.{Counts}

@@ -2,12 +2,10 @@
 use Rattle.std.specs.Prelude.{ℕ, suc, ◌+◌, ◌*◌, ◌-◌, min, Bool, false, ◌&&◌, ◌||◌, List, [], ◌∷◌, ◌++◌, ltb, leb, length, take}
 use Rattle.std.proofs.lemmas.List.Edits.{sets}
 use Rattle.laws.specs.Pick.{pick}
-use Rattle.lines.specs.declared.Lines.{Lines}
 use Rattle.lines.specs.Lines.{new_lines}
 use Rattle.lines.specs.Chunk.{ended, after as linesAfter}
 use Rattle.lines.specs.AnyChunks.{last_of}
 use Rattle.bench_text.specs.declared.BookLineAnswer.{BookLineAnswer}
-use Rattle.bench_text.specs.declared.BookLine.{BookLine}
 use Rattle.bench_text.specs.declared.Capture.{Capture}
 use Rattle.bench_text.specs.Line.{book_line_of}
 use Rattle.bench_answers.specs.declared.Counts.{Counts}

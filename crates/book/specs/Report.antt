@@ -4,7 +4,6 @@ use Rattle.laws.specs.Bit.{bit}
 use Rattle.lines.specs.Lines.{lines_of}
 use Rattle.bench_text.specs.declared.BookLineAnswer.{BookLineAnswer}
 use Rattle.bench_text.specs.declared.BookLineAnswer.TheVariants.{Good, Refused}
-use Rattle.bench_text.specs.declared.BookLine.{BookLine}
 use Rattle.bench_text.specs.declared.Capture.{Capture}
 use Rattle.bench_text.specs.Line.{book_line_of}
 use Rattle.bench_reading.specs.Reading.{reading_of, is_decoded}

@@ -67,6 +67,7 @@ struct Ended {
 }
 
 impl BookReader {
+    #[tactic(auto, unfolding(crate::specs::Reader::new_reader))]
     pub fn new() -> BookReader
         ensures { result ≡ new_reader }
     {
@@ -84,6 +85,7 @@ impl BookReader {
     }
 
     // The reader has read `MAX_LINES` lines, the most that it reads.
+    #[tactic(auto, unfolding(crate::specs::Reader::is_full))]
     pub fn is_full(self) -> bool
         ensures { result ≡ is_full self }
     {
@@ -91,6 +93,7 @@ impl BookReader {
     }
 
     // A byte has come after these lines, and was not read.
+    #[tactic(auto, unfolding(crate::specs::Reader::is_over))]
     pub fn is_over(self) -> bool
         ensures { result ≡ is_over self }
     {
