@@ -81,5 +81,5 @@ says_byte (Decode d) =
     cases (λ r. SaysByte r (Decode d)) (eqb d.bit_len 8) (λ e. one_byte d (eqb-true _ _ e))
     (λ not_8. λ byte frame. eqb-false _ _ not_8 (frame_length (Decode d) 8 (byte ∷ []) frame))
 
-pub tells_byte : (found : Found) (r : BackwardByte) → r ≡ byte_in found → (r ≡ byte_in found) × SaysByte r found
-tells_byte found r e = (e, rw e (says_byte found))
+pub tells_byte : (found : Found) (r : BackwardByte) → r ≡ byte_in found → SaysByte r found
+tells_byte found r e = rw e (says_byte found)

@@ -43,6 +43,7 @@ fn try_decode(ev: RxCompletedEvent, preferred: BitLengths) -> Found
     answer.found
 }
 
+#[tactic(auto, using(crate::proofs::Telling::tells_byte, lengths::proofs::Masks::backward_mask), unfolding(crate::specs::Reading::byte_in, laws::specs::Pick::pick))]
 pub fn decode_backward_byte(ev: RxCompletedEvent) -> BackwardByte
     ensures value { result ≡ byte_in (searched_in backward_lengths ev) }
     ensures says_byte { SaysByte result (searched_in backward_lengths ev) }

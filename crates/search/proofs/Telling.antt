@@ -72,11 +72,8 @@ pub says : (s : BestPhaseSearch) (w : SampleWindow) → SaysStep (step_of s w).a
 says s w = by_step s.preferred s.best w s.step
 
 -- ---- the promises, from the results that they name
-pub says_of : (s : BestPhaseSearch) (w : SampleWindow) (r : Stepped) → r ≡ step_of s w → SaysStep r.answer s w
-says_of s w r e = rw e (says s w)
-
-pub tells : (s : BestPhaseSearch) (w : SampleWindow) (r : Stepped) → r ≡ step_of s w → (r ≡ step_of s w) × SaysStep r.answer s w
-tells s w r e = (e, says_of s w r e)
+pub tells : (s : BestPhaseSearch) (w : SampleWindow) (r : Stepped) → r ≡ step_of s w → SaysStep r.answer s w
+tells s w r e = rw e (says s w)
 
 pub tells_run : (s : BestPhaseSearch) (w : SampleWindow) (r : SearchAnswer) → r ≡ run_of s w → (r ≡ run_of s w) × ((first_done 5 s w ≡ Done r) × SaysAnswer r s w)
 tells_run s w r e = (e, (rw (e, run_whole s w) (five_suffice s w), rw (e, run_whole s w) (says_whole s w)))

@@ -114,7 +114,7 @@ impl BestPhaseSearch {
         }
     }
 
-    #[tactic(auto, using(crate::proofs::Telling::says_of), unfolding(crate::specs::Search::step_of, laws::specs::Pick::pick))]
+    #[tactic(auto, using(crate::proofs::Telling::tells, crate::proofs::Steps::scan_back), unfolding(crate::specs::Search::step_of, laws::specs::Pick::pick))]
     pub fn step(self, window: SampleWindow) -> Stepped
         ensures value { result ≡ step_of self window }
         ensures says_step { SaysStep result.answer self window }

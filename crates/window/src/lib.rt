@@ -375,6 +375,7 @@ fn stop_of(sample: u8) -> PeekStop
 }
 
 // The stored bits with one more. Neither the start bit nor a data bit past the 64th is stored.
+#[tactic(auto, using(crate::proofs::Placing::room), unfolding(crate::specs::Code::pushed_of, laws::specs::Pick::pick))]
 fn push_decoded_bit(bits: u64, bit_len: u8, weightmax: u8) -> u64
     requires { bits < 2 ^ stored_of bit_len }
     ensures { result ≡ pushed_of bits bit_len weightmax }
