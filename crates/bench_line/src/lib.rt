@@ -36,7 +36,7 @@ struct PublicConstants {
     max_stations: usize,
 }
 
-#[derive(Drop)]
+#[derive(Clone, Copy)]
 pub struct BenchLine {
     stations: [DaliBitbangPhy; MAX_STATIONS],
     count: u8,
@@ -46,32 +46,32 @@ pub struct BenchLine {
 // Most calls name a station by its number. If the line has no station of that number, the call answers `NoStation`, refusal 9. Otherwise it hands on
 // the station's own answer, or `Done` if the station gives none.
 
-#[derive(Drop)]
+#[derive(Clone, Copy)]
 pub enum LineDone {
     Done = 0,
     NoStation = 9,
 }
 
-#[derive(Drop)]
+#[derive(Clone, Copy)]
 pub enum LineStart {
     Told(StartAnswer),
     NoStation,
 }
 
-#[derive(Drop)]
+#[derive(Clone, Copy)]
 pub enum LinePoll {
     Told(TxPollResult),
     NoStation,
 }
 
-#[derive(Drop)]
+#[derive(Clone, Copy)]
 pub enum LineTold {
     Told(bool),
     NoStation,
 }
 
 // Refusal 10: the count is outside 1 to 4.
-#[derive(Drop)]
+#[derive(Clone, Copy)]
 pub enum LineNew {
     Made = 0,
     BadCount = 10,
@@ -100,38 +100,38 @@ fn line_new_number(answer: LineNew) -> u8
 // A call that changes a line hands the line back beside its answer.
 
 // After a refused count the line has no station, so it refuses every call that names one.
-#[derive(Drop)]
+#[derive(Clone, Copy)]
 pub struct MadeLine {
     pub line: BenchLine,
     pub answer: LineNew,
 }
 
-#[derive(Drop)]
+#[derive(Clone, Copy)]
 pub struct LineChanged {
     pub line: BenchLine,
     pub answer: LineDone,
 }
 
-#[derive(Drop)]
+#[derive(Clone, Copy)]
 pub struct LineStarted {
     pub line: BenchLine,
     pub answer: LineStart,
 }
 
-#[derive(Drop)]
+#[derive(Clone, Copy)]
 pub struct LinePolled {
     pub line: BenchLine,
     pub answer: LinePoll,
 }
 
-#[derive(Drop)]
+#[derive(Clone, Copy)]
 pub struct LineTookIdle {
     pub line: BenchLine,
     pub answer: LineTold,
 }
 
 // If the station had no capture to take, or the line has no such station, the event is a new one.
-#[derive(Drop)]
+#[derive(Clone, Copy)]
 pub struct LineTookRx {
     pub line: BenchLine,
     pub answer: LineTold,
@@ -139,7 +139,7 @@ pub struct LineTookRx {
 }
 
 // A copy of a station, for the calls that change nothing. If the line has no such station, it is a new one.
-#[derive(Drop)]
+#[derive(Clone, Copy)]
 pub struct SeenStation {
     pub station: DaliBitbangPhy,
     pub answer: LineDone,
