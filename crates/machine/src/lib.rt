@@ -417,6 +417,7 @@ impl Core {
         self
     }
 
+    #[tactic(auto, unfolding(crate::specs::Idle::idle_tick, laws::specs::Pick::pick))]
     pub fn tick_idle(self, bus_is_high: bool) -> Core
         ensures { result ≡ idle_tick self bus_is_high }
     {
