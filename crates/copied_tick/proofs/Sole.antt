@@ -1,6 +1,6 @@
 -- Any two answers that meet a public promise of this crate are equal, and so are the stations that `tick` leaves behind its reference. `Post` and
--- `Promised` are the promises themselves, as the check reads them from the source. It reads plain facts only of a function that takes no reference to a
--- struct. Those of `tick` are propositions of the logic, so its law is an entailment. Assumes nothing.
+-- `Promised` are the promises themselves, as the check reads them from the source: that of `tick_lent` as a plain fact, those of `tick` as propositions
+-- of the logic, so its law is an entailment. Assumes nothing.
 use mathlib.Core.Path.{◌≡◌}
 use mathlib.Core.Bool.{Bool}
 use seplogic.Ra.Ura.{Ura}

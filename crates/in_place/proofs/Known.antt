@@ -23,7 +23,6 @@ use Rattle.fsm.proofs.end_rx.Symbol as end_rx_code
 use Rattle.fsm.proofs.with_end.Symbol as with_end_code
 use Rattle.fsm.proofs.DaliBitbangPhy.finish_rx_and_notify.Symbol as finish_code
 use Rattle.fsm.specs.Rx.{shifted, sampled, finished, notified}
-use Rattle.in_place.proofs.Leaves.{holds}
 use Rattle.in_place.proofs.Values.{level_data, Station, core_data, rx_data, hb_data, bytes_data}
 
 module _ {M : Type 1} {𝓤 : Ura M} (𝓛 : Logic 𝓤) where
