@@ -42,7 +42,7 @@ struct Limits {
 }
 
 // How a run goes on: it reads again; a byte came after the last line that is read; the input has ended; or a read or a write failed.
-#[derive(Drop)]
+#[derive(Clone, Copy)]
 enum Next {
     More,
     Over,
@@ -51,7 +51,7 @@ enum Next {
 }
 
 // A run so far: the number of its reads, the reader after them, and how it goes on.
-#[derive(Drop)]
+#[derive(Clone, Copy)]
 struct Run {
     reads: u64,
     reader: BookReader,
@@ -67,41 +67,42 @@ fn bytes_in(said: Said) -> usize
     }
 }
 
-fn main() {
+fn main(rt: HostRuntime) {
     let mut chunk = [0u8; CHUNK_MAX];
     let mut out = [0u8; ANSWERS_ROOM];
-    answer_book(&mut chunk, &mut out);
+    answer_book(rt, &mut chunk, &mut out);
 }
 
 // All that the program does.
-fn answer_book(chunk: &mut Chunk, out: &mut Answers)
+fn answer_book(rt: HostRuntime, chunk: &mut Chunk, out: &mut Answers)
     ensures { Told }
 {
-    let run = read_all(chunk, out);
+    let run = read_all(rt, chunk, out);
     let next = run.next;
     match next {
         Next::More => {}
         Next::Failed => {}
         Next::End => {
-            finish(run, out);
+            finish(rt, run, out);
         }
         Next::Over => {
-            finish(run, out);
-            stdio::complain(b"note: no line after the 999,999th was read\n");
+            finish(rt, run, out);
+            stdio::complain(rt, b"note: no line after the 999,999th was read\n");
         }
     }
 }
 
 // A loop must end, but an input need not. So the reads are counted, up to a number that no run reaches.
-fn read_all(chunk: &mut Chunk, out: &mut Answers) -> Run
+fn read_all(rt: HostRuntime, chunk: &mut Chunk, out: &mut Answers) -> Run
     ensures ran { Ran result.reads result.reader result.next }
     ensures stops { Stops result.reads result.next }
 {
     let mut reader = BookReader::new();
     let mut reads: u64 = 0;
     while reads < u64::MAX {
-        let run = turn(reads, reader, chunk, out);
-        if !goes_on(run) {
+        let run = turn(rt, reads, reader, chunk, out);
+        let stops = !goes_on(run);
+        if stops {
             return run;
         }
         reader = run.reader;
@@ -127,23 +128,32 @@ fn goes_on(run: Run) -> bool
 }
 
 // Reads once, and takes in what came.
-fn turn(reads: u64, reader: BookReader, chunk: &mut Chunk, out: &mut Answers) -> Run
+fn turn(
+    rt: HostRuntime,
+    reads: u64,
+    reader: BookReader,
+    chunk: &mut Chunk,
+    out: &mut Answers,
+) -> Run
     requires reads_lt_reads_max { reads < reads_max }
     requires ran { Ran reads reader More }
     ensures reads_value { result.reads ≡ reads + 1 }
     ensures ran_2 { Ran result.reads result.reader result.next }
 {
     let made = reads + 1;
-    let report = stdio::read_chunk(reads, chunk);
+    let report = stdio::read_chunk(rt, reads, chunk);
     match report {
-        Report::Bytes(count) => take_in(reads, reader, chunk, count, out),
+        Report::Bytes(count) => take_in(rt, reads, reader, chunk, count, out),
         Report::End => Run {
             reads: made,
             reader,
             next: Next::End,
         },
         Report::Failed => {
-            stdio::complain(b"error: standard input can't be read, so there is no END line\n");
+            stdio::complain(
+                rt,
+                b"error: standard input can't be read, so there is no END line\n",
+            );
             Run {
                 reads: made,
                 reader,
@@ -154,7 +164,14 @@ fn turn(reads: u64, reader: BookReader, chunk: &mut Chunk, out: &mut Answers) ->
 }
 
 // Feeds the reader what came, and writes what it says.
-fn take_in(reads: u64, reader: BookReader, chunk: &Chunk, count: usize, out: &mut Answers) -> Run
+fn take_in(
+    rt: HostRuntime,
+    reads: u64,
+    reader: BookReader,
+    chunk: &Chunk,
+    count: usize,
+    out: &mut Answers,
+) -> Run
     requires reads_lt_reads_max { reads < reads_max }
     requires ran { Ran reads reader More }
     requires within { Within (length chunk.now) (Bytes count) }
@@ -169,8 +186,9 @@ fn take_in(reads: u64, reader: BookReader, chunk: &Chunk, count: usize, out: &mu
     let said = fed.said;
     let end = bytes_in(said);
     let answers: &[u8] = out;
-    if !stdio::write_text(&answers[..end]) {
-        say_not_written();
+    let failed = !stdio::write_text(rt, &answers[..end]);
+    if failed {
+        say_not_written(rt);
         return Run {
             reads: made,
             reader: next,
@@ -191,14 +209,14 @@ fn take_in(reads: u64, reader: BookReader, chunk: &Chunk, count: usize, out: &mu
     }
 }
 
-fn say_not_written()
+fn say_not_written(rt: HostRuntime)
     ensures { Complained not_written }
 {
-    stdio::complain(b"error: standard output can't be written\n");
+    stdio::complain(rt, b"error: standard output can't be written\n");
 }
 
 // Writes the reader's last words, and complains if that fails.
-fn finish(run: Run, out: &mut Answers) -> bool
+fn finish(rt: HostRuntime, run: Run, out: &mut Answers) -> bool
     requires { Ran run.reads run.reader run.next }
     ensures { Finished run.reader result }
 {
@@ -206,9 +224,10 @@ fn finish(run: Run, out: &mut Answers) -> bool
     let said = reader.finish(out);
     let end = bytes_in(said);
     let answers: &[u8] = out;
-    let done = stdio::write_text(&answers[..end]);
-    if !done {
-        say_not_written();
+    let done = stdio::write_text(rt, &answers[..end]);
+    let failed = !done;
+    if failed {
+        say_not_written(rt);
     }
     done
 }

@@ -6,31 +6,31 @@ use bench_line::{BenchLine, LineTold};
 use event::RxCompletedEvent;
 use fsm::{BusState, DaliBitbangPhy};
 use halfbits::HalfBitBuffer;
-use libc::STDOUT_FILENO;
 
 // `until` looks no further than this tick.
 const LAST_TICK: u8 = 40;
 
 // A line, and the number of ticks since the start calls.
-#[derive(Drop)]
+#[derive(Clone, Copy)]
 struct LineAt {
     line: BenchLine,
     tick: u8,
 }
 
-fn say(text: &[u8]) {
-    io::write_all(STDOUT_FILENO, text);
+// A text that can't be written is passed over.
+fn say(rt: &impl Print, text: &[u8]) {
+    let _ = rt.write_all(text);
 }
 
-fn say_number(number: u64) {
-    io::print_decimal(STDOUT_FILENO, number);
+fn say_number(rt: &impl Print, number: u64) {
+    let _ = print!(rt; "{number}");
 }
 
-fn say_level(high: bool) {
+fn say_level(rt: &impl Print, high: bool) {
     if high {
-        say(b"high");
+        say(rt, b"high");
     } else {
-        say(b"low");
+        say(rt, b"low");
     }
 }
 
@@ -47,30 +47,31 @@ fn ticked(station: DaliBitbangPhy, level: bool, ticks: u16) -> DaliBitbangPhy {
     now
 }
 
-fn say_samples(samples: [u8; RxCompletedEvent::MAX_SAMPLES]) {
+fn say_samples(rt: &impl Print, samples: [u8; RxCompletedEvent::MAX_SAMPLES]) {
     let mut at = 0;
     while at < RxCompletedEvent::MAX_SAMPLES {
-        io::print_hex(STDOUT_FILENO, samples[at] as u64, 2);
+        let sample = samples[at];
+        let _ = print!(rt; "{sample:02x}");
         at += 1;
     }
 }
 
-fn say_long_low() {
+fn say_long_low(rt: &impl Print) {
     let low = ticked(DaliBitbangPhy::new(), false, 600);
     let high = ticked(low, true, 16);
     let took = high.take_completed_rx_event();
     let event = took.event;
     let samples = event.samples;
-    say(b"600 low ticks and 16 high: ");
+    say(rt, b"600 low ticks and 16 high: ");
     if took.completed {
-        say(b"count ");
-        say_number(event.sample_count as u64);
-        say(b", samples ");
-        say_samples(samples);
+        say(rt, b"count ");
+        say_number(rt, event.sample_count as u64);
+        say(rt, b", samples ");
+        say_samples(rt, samples);
     } else {
-        say(b"no capture");
+        say(rt, b"no capture");
     }
-    say(b"\n");
+    say(rt, b"\n");
 }
 
 // ---- 16 bits of 0000 against 8000
@@ -101,30 +102,30 @@ fn until(at: LineAt, number: u8, breaking: bool) -> LineAt {
 }
 
 // A station that sampled high found the line idle.
-fn say_found(idle: LineTold) {
+fn say_found(rt: &impl Print, idle: LineTold) {
     match idle {
-        LineTold::Told(high) => say_level(high),
-        LineTold::NoStation => say(b"nothing"),
+        LineTold::Told(high) => say_level(rt, high),
+        LineTold::NoStation => say(rt, b"nothing"),
     }
 }
 
-fn say_break(line: BenchLine, number: u8) {
+fn say_break(rt: &impl Print, line: BenchLine, number: u8) {
     let clash = until(LineAt { line, tick: 0 }, number, true);
     let sample = until(clash, number, false);
     let sampled = sample.line;
     let took = sampled.take_idle_after_break(number);
     let idle = took.answer;
-    say(b"station ");
-    say_number(number as u64);
-    say(b" sees the clash at tick ");
-    say_number(clash.tick as u64);
-    say(b" and samples ");
-    say_found(idle);
-    say(b" at ");
-    say_number(sample.tick as u64);
+    say(rt, b"station ");
+    say_number(rt, number as u64);
+    say(rt, b" sees the clash at tick ");
+    say_number(rt, clash.tick as u64);
+    say(rt, b" and samples ");
+    say_found(rt, idle);
+    say(rt, b" at ");
+    say_number(rt, sample.tick as u64);
 }
 
-fn say_clash() {
+fn say_clash(rt: &impl Print) {
     let made = BenchLine::new(2);
     let line = made.line;
     let zeros = HalfBitBuffer::encode(16, 0x00, 0x00, 0);
@@ -135,14 +136,14 @@ fn say_clash() {
     let one = started.line;
     let again = one.start_tx(1, second);
     let both = again.line;
-    say(b"16 bits of 0000 against 8000: ");
-    say_break(both, 0);
-    say(b"; ");
-    say_break(both, 1);
-    say(b"\n");
+    say(rt, b"16 bits of 0000 against 8000: ");
+    say_break(rt, both, 0);
+    say(rt, b"; ");
+    say_break(rt, both, 1);
+    say(rt, b"\n");
 }
 
-fn main() {
-    say_long_low();
-    say_clash();
+fn main(rt: HostRuntime) {
+    say_long_low(&rt);
+    say_clash(&rt);
 }

@@ -13,7 +13,7 @@ const OK: Reply = Reply::Done(0);
 const NO_STATION: Reply = Reply::Done(9);
 
 // What the program keeps from line to line.
-#[derive(Drop)]
+#[derive(Clone, Copy)]
 pub(crate) struct Kept {
     search: BestPhaseSearch,
     station: DaliBitbangPhy,
@@ -21,7 +21,7 @@ pub(crate) struct Kept {
 }
 
 // What a command hands back: what is kept after it, and its reply. An enum holds no array, so the bytes and the station of a reply stand beside it.
-#[derive(Drop)]
+#[derive(Clone, Copy)]
 pub(crate) struct Answer {
     pub(crate) kept: Kept,
     pub(crate) reply: Reply,

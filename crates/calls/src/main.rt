@@ -28,7 +28,7 @@ struct Session {
 }
 
 // Answers a line that has ended.
-fn end_line(mut session: Session, line: &Line, out: &mut Answers) -> Session {
+fn end_line(rt: HostRuntime, mut session: Session, line: &Line, out: &mut Answers) -> Session {
     let answer = commands::answered(fields::first(line, session.len), session.kept);
     let end = reply::put(out, session.at, answer);
     session.at = text::writing::put_byte(out, end, b'\n');
@@ -36,15 +36,15 @@ fn end_line(mut session: Session, line: &Line, out: &mut Answers) -> Session {
     session.kept = kept;
     session.len = 0;
     if NEARLY_FULL < session.at {
-        return flush(session, out);
+        return flush(rt, session, out);
     }
     session
 }
 
 // Writes the answers that wait, unless a write has failed.
-fn flush(mut session: Session, out: &Answers) -> Session {
-    if session.open && !stdio::write_text(fields::first(out, session.at)) {
-        stdio::complain(b"error: standard output can't be written\n");
+fn flush(rt: HostRuntime, mut session: Session, out: &Answers) -> Session {
+    if session.open && !stdio::write_text(rt, fields::first(out, session.at)) {
+        stdio::complain(rt, b"error: standard output can't be written\n");
         session.open = false;
     }
     session.at = 0;
@@ -52,39 +52,51 @@ fn flush(mut session: Session, out: &Answers) -> Session {
 }
 
 // Answers every line that ends in a chunk. Each turn of the loop takes at least one byte.
-fn take_in(mut session: Session, chunk: &[u8], line: &mut Line, out: &mut Answers) -> Session {
+fn take_in(
+    rt: HostRuntime,
+    mut session: Session,
+    chunk: &[u8],
+    line: &mut Line,
+    out: &mut Answers,
+) -> Session {
     let mut from = 0;
     while from < chunk.len() {
         let taken = lines::take(line, session.len, chunk, from);
         session.len = taken.len;
         if taken.ended {
-            session = end_line(session, line, out);
+            session = end_line(rt, session, line, out);
         }
         if taken.next <= from {
             return session;
         }
         from = taken.next;
     }
-    flush(session, out)
+    flush(rt, session, out)
 }
 
 // Reads once, and answers the lines that have ended. At the end of the input it also answers a last line without LF.
-fn turn(mut session: Session, chunk: &mut Answers, line: &mut Line, out: &mut Answers) -> Session {
-    let report = stdio::read_chunk(session.reads, chunk);
+fn turn(
+    rt: HostRuntime,
+    mut session: Session,
+    chunk: &mut Answers,
+    line: &mut Line,
+    out: &mut Answers,
+) -> Session {
+    let report = stdio::read_chunk(rt, session.reads, chunk);
     if let stdio::Report::Bytes(count) = report {
-        return take_in(session, fields::first(chunk, count), line, out);
+        return take_in(rt, session, fields::first(chunk, count), line, out);
     }
     if let stdio::Report::Failed = report {
-        stdio::complain(b"error: standard input can't be read\n");
+        stdio::complain(rt, b"error: standard input can't be read\n");
     } else if 0 < session.len {
-        session = flush(end_line(session, line, out), out);
+        session = flush(rt, end_line(rt, session, line, out), out);
     }
     session.open = false;
     session
 }
 
 // A loop must end, but an input need not. So the reads are counted, up to a number that no run reaches.
-fn main() {
+fn main(rt: HostRuntime) {
     let mut chunk = [0u8; ANSWERS_ROOM];
     let mut line = [0u8; LINE_ROOM];
     let mut out = [0u8; ANSWERS_ROOM];
@@ -97,7 +109,7 @@ fn main() {
     };
     for reads in 0..u64::MAX {
         session.reads = reads;
-        session = turn(session, &mut chunk, &mut line, &mut out);
+        session = turn(rt, session, &mut chunk, &mut line, &mut out);
         if !session.open {
             return;
         }

@@ -20,7 +20,7 @@ pub(crate) const BYTES_ROOM: usize = 1_024;
 // No command has more fields, its word included. A place is taken modulo this number, so that nothing has to be proved of it.
 const FIELDS: usize = 8;
 
-#[derive(Drop)]
+#[derive(Clone, Copy)]
 pub(crate) struct Operands {
     // The line has as many fields as the signature has letters, and each field has the form of its letter.
     pub(crate) good: bool,
