@@ -48,20 +48,20 @@ module _ (r : BookReader) where
 
 -- ---- what is written
 module _ (r : BookReader) (buffer : List ℕ) where
-  pub too_short : length buffer < finish_max → (NoRoom ≡ finished r (length buffer)) × ((buffer ≡ buffer_finished r buffer) × (bytes_in NoRoom ≤ length buffer))
+  pub too_short : length buffer < finish_max → (NoRoom ≡ finished r (length buffer)) × (buffer ≡ buffer_finished r buffer) × (bytes_in NoRoom ≤ length buffer)
   unfolding finished buffer_finished bytes_in
-  too_short h = let short = lt-leb finish_max (length buffer) h in (sym (on_false short _ _), (sym (on_false short _ _), omega arith))
+  too_short h = let short = lt-leb finish_max (length buffer) h in (sym (on_false short _ _), sym (on_false short _ _), omega arith)
 
   module _ (h : finish_max ≤ length buffer) (n : ℕ) (buffer' : List ℕ) where
     abbrev pub Finished : Type 0
-    Finished = (Bytes n ≡ finished r (length buffer)) × ((buffer' ≡ buffer_finished r buffer) × (bytes_in (Bytes n) ≤ length buffer))
+    Finished = (Bytes n ≡ finished r (length buffer)) × (buffer' ≡ buffer_finished r buffer) × (bytes_in (Bytes n) ≤ length buffer)
 
     says : (text : List ℕ) → last_words r ≡ text → n ≡ 0 + length text → buffer' ≡ sets buffer 0 text → n ≤ finish_max → Finished
     unfolding finished buffer_finished bytes_in
     says text e past left most =
         let room = le-leb finish_max (length buffer) h in
         let all : n ≡ length (last_words r) = past ∙ omega arith ∙ ap length (sym e) in
-        (ap Bytes all ∙ sym (on_true room _ _), (left ∙ ap (sets buffer 0) (sym e) ∙ sym (on_true room _ _), omega arith))
+        (ap Bytes all ∙ sym (on_true room _ _), left ∙ ap (sets buffer 0) (sym e) ∙ sym (on_true room _ _), omega arith)
 
     -- the counts alone
     module _ (past : n ≡ place_after end_max (end_text r.counts) 0 buffer) (left : buffer' ≡ buffer_after end_max (end_text r.counts) 0 buffer) (most : n ≤ 0 + end_max) where
@@ -73,6 +73,10 @@ module _ (r : BookReader) (buffer : List ℕ) where
 
       pub when_none : r.lines.len ≡ 0 → Finished
       when_none e = ends (none_words r e)
+
+      -- the buffer after it, by itself
+      pub none_left : r.lines.len ≡ 0 → buffer' ≡ buffer_finished r buffer
+      none_left e = (when_none e).1
 
     -- the answer to a last line, and the counts behind it
     pub when_some : is_full r ≡ false → (r.lines.len ≡ 0 → ⊥) → (middle : List ℕ) (a : Ended) → AnsweredLine r.counts (waiting r.lines) 0 buffer middle a

@@ -161,6 +161,7 @@ impl BookReader {
     }
 
     // Answers the end of the input: a last line without its LF, and then the counts.
+    #[tactic(auto, using(crate::proofs::Finishing::when_none, crate::proofs::Finishing::none_left), unfolding(crate::specs::Reader::bytes_in))]
     pub fn finish(self, out: &mut [u8]) -> Said
         ensures value { result ≡ finished self (length out.old) }
         ensures out_after { out.new ≡ buffer_finished self out.old }

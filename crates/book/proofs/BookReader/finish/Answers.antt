@@ -1,25 +1,19 @@
 -- `book::BookReader::finish` meets its contract. Assumes nothing.
 use native.Mathlib.Omega.{arith}
 use mathlib.Core.Path.{sym, ◌∙◌}
-use Rattle.book.proofs.Finishing.{not_full, too_short, when_full, when_none, when_some}
+use Rattle.book.proofs.Finishing.{not_full, too_short, when_full, when_some}
 use Rattle.book.proofs.BookReader.finish.Goals as goal
 
 pub returns-then-out-lt-FINISH_MAX : goal.returns-then-out-lt-FINISH_MAX
 returns-then-out-lt-FINISH_MAX c =
     let short = too_short c.args.self c.args.out.now c.if-out-lt-FINISH_MAX.true in
-    record { value = short.0; out_after = short.1.0; result_in_bounds = short.1.1 }
+    record { value = short.0; out_after = short.1; result_in_bounds = short.2 }
 
 pub returns-then-is_full : goal.returns-then-is_full
 returns-then-is_full c =
     let put = c.put_end.ensures in
     let ends = when_full c.args.self c.args.out.now c.if-out-lt-FINISH_MAX.false _ _ put.value put.out_after put.upper_bound (sym c.is_full.ensures ∙ c.if-is_full.true) in
-    record { value = ends.0; out_after = ends.1.0; result_in_bounds = ends.1.1 }
-
-pub returns-then-len-eq0 : goal.returns-then-len-eq0
-returns-then-len-eq0 c =
-    let put = c.put_end-then-len-eq0.ensures in
-    let ends = when_none c.args.self c.args.out.now c.if-out-lt-FINISH_MAX.false _ _ put.value put.out_after put.upper_bound c.if-len-eq0.true in
-    record { value = ends.0; out_after = ends.1.0; result_in_bounds = ends.1.1 }
+    record { value = ends.0; out_after = ends.1; result_in_bounds = ends.2 }
 
 pub end_line-ended-requires : goal.end_line-ended-requires
 end_line-ended-requires c =
@@ -29,5 +23,5 @@ pub returns : goal.returns
 returns c =
     let put = c.put_end-2.ensures in
     let ends = when_some c.args.self c.args.out.now c.if-out-lt-FINISH_MAX.false _ _ (sym c.is_full.ensures ∙ c.if-is_full.false)
-    c.if-len-eq0.false _ _ c.end_line-ended.ensures put.value put.out_after put.upper_bound
-    in record { value = ends.0; out_after = ends.1.0; result_in_bounds = ends.1.1 }
+    (omega arith) _ _ c.end_line-ended.ensures put.value put.out_after put.upper_bound
+    in record { value = ends.0; out_after = ends.1; result_in_bounds = ends.2 }
