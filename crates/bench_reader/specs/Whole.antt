@@ -4,7 +4,6 @@ use Rattle.lines.specs.AnyChunks.{joined}
 use Rattle.book.specs.declared.BookReader.{BookReader}
 use Rattle.book.specs.Report.{report}
 use Rattle.book.specs.Reader.{last_words}
-use Rattle.bench_reader.specs.declared.Next.{Next}
 use Rattle.bench_reader.specs.declared.Next.TheVariants.{End, Over}
 use Rattle.bench_reader.specs.Run.{Ran, came_in, wrote_in}
 
