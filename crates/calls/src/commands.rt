@@ -21,7 +21,7 @@ pub(crate) struct Kept {
 }
 
 // What a command hands back: what is kept after it, and its reply. An enum holds no array, so the bytes and the station of a reply stand beside it.
-#[derive(Clone, Copy)]
+#[derive(Drop)]
 pub(crate) struct Answer {
     pub(crate) kept: Kept,
     pub(crate) reply: Reply,

@@ -30,10 +30,9 @@ struct Session {
 // Answers a line that has ended.
 fn end_line(rt: HostRuntime, mut session: Session, line: &Line, out: &mut Answers) -> Session {
     let answer = commands::answered(fields::first(line, session.len), session.kept);
+    session.kept = answer.kept;
     let end = reply::put(out, session.at, answer);
     session.at = text::writing::put_byte(out, end, b'\n');
-    let kept = answer.kept;
-    session.kept = kept;
     session.len = 0;
     if NEARLY_FULL < session.at {
         return flush(rt, session, out);

@@ -9,7 +9,7 @@ pub(crate) type Answers = [u8; ANSWERS_ROOM];
 pub(crate) const ANSWERS_ROOM: usize = 65_536;
 
 // Some replies are written with the bytes or the station beside them in `Answer`.
-#[derive(Clone, Copy)]
+#[derive(Drop)]
 pub(crate) enum Reply {
     Bad,
     None,
