@@ -17,7 +17,7 @@ use Rattle.text.specs.Hex.{hex_of, hexes_of}
 use Rattle.text.specs.Writing.{room_at, place_after, buffer_after}
 use Rattle.text.proofs.DecimalDigits.{length_decimal}
 use Rattle.text.proofs.SignedLaws.{length_signed}
-use Rattle.text.proofs.WritingLaws.{Past, stored, written, unwritten, enough, too_little, then as stored-then}
+use Rattle.text.proofs.WritingLaws.{Past, stored, written, unwritten, enough, too_little, then as stored_then}
 use Rattle.rx_decode.specs.declared.SniffedFrame.{SniffedFrame}
 use Rattle.rx_decode.specs.declared.SniffedFrame.TheVariants.{Forward16, Backward8, Forward24, UnsupportedLength, DecodeFailed}
 use Rattle.rx_decode.specs.contracts.SniffedFrame.{the_field}
@@ -47,7 +47,7 @@ then {text} {more} {before} {middle} {after} {place} {next} {last} a b =
           let n : next ≡ place + length text = first.0 in
           let same : length middle ≡ length before = ap length first.1 ∙ length-sets before place text in
           let room : next + length more ≤ length middle = omega arith in
-          stored-then text more place before fits first (written (length more) more next middle room (b.whole room));
+          stored_then text more place before fits first (written (length more) more next middle room (b.whole room));
     }
 
 -- ---- a line, after the test of the room for the longest

@@ -11,7 +11,7 @@ use lib.Dec.{leb}
 use borrow.Author.Tests.{le-leb}
 use Rattle.laws.proofs.Picked.{on_true}
 use Rattle.stdio.specs.declared.Report.{Report}
-use Rattle.stdio.specs.declared.Report.TheVariants.{Bytes as bytes-came, End as input-ended, Failed as read-failed}
+use Rattle.stdio.specs.declared.Report.TheVariants.{Bytes as bytes_came, End as input_ended, Failed as read_failed}
 use Rattle.stdio.specs.Marks.{Came, Went, Complained}
 use Rattle.book.specs.declared.BookReader.{BookReader}
 use Rattle.book.specs.declared.Fed.{Fed}
@@ -20,7 +20,7 @@ use Rattle.book.specs.declared.Said.TheVariants.{Bytes}
 use Rattle.book.specs.Reader.{is_over, after, said, bytes_in, feed_max, fed, buffer_fed, last_words, finish_max, finished, buffer_finished}
 use Rattle.bench_reader.specs.declared.Next.{Next}
 use Rattle.bench_reader.specs.declared.Next.TheVariants.{More, Over, End, Failed}
-use Rattle.bench_reader.specs.Run.{not_read, not_written, Ran, full, ended, unread, unwritten, fed as was-fed, is_more, Stops, Finished, Told, endless}
+use Rattle.bench_reader.specs.Run.{not_read, not_written, Ran, full, ended, unread, unwritten, fed as was_fed, is_more, Stops, Finished, Told, endless}
 
 -- ---- the text at a buffer's start
 front : (text buffer : List ℕ) {buffer' : List ℕ} {n : ℕ} → buffer' ≡ sets buffer 0 text → n ≡ length text → n ≤ length buffer → take n buffer' ≡ text
@@ -45,7 +45,7 @@ module _ (r : BookReader) (chunk out : List ℕ) (enough : leb (feed_max chunk) 
 room : (n : ℕ) (chunk : List ℕ) {size : ℕ} → feed_max chunk ≤ size → leb (feed_max (take n chunk)) size ≡ true
 room n chunk {size} h = le-leb (feed_max (take n chunk)) size (omega (arith, length-take n chunk))
 
-module _ {reads : ℕ} {r : BookReader} (buffer : List ℕ) (count : ℕ) (run : Ran reads r More) (came : Came reads buffer (bytes-came count)) (out : List ℕ)
+module _ {reads : ℕ} {r : BookReader} (buffer : List ℕ) (count : ℕ) (run : Ran reads r More) (came : Came reads buffer (bytes_came count)) (out : List ℕ)
     (enough : feed_max buffer ≤ length out) {f : Fed} (e : f ≡ fed r (take count buffer) (length out)) {out' : List ℕ}
     (g : out' ≡ buffer_fed r (take count buffer) out) (h : bytes_in f.said ≤ length out) {n : ℕ} (k : n ≡ bytes_in f.said) where
   next_reader : f.reader ≡ after r (take count buffer)
@@ -55,7 +55,7 @@ module _ {reads : ℕ} {r : BookReader} (buffer : List ℕ) (count : ℕ) (run :
   answers = fed_text r (take count buffer) out (room count buffer enough) e g h k
 
   pub goes_on : {done : Bool} → Went (take n out') done → done ≡ true → is_over f.reader ≡ false → Ran (reads + 1) f.reader More
-  goes_on w d o = rw (add-one reads, next_reader) (was-fed reads r buffer count run came (rw (answers, d) at w) (rw next_reader at o))
+  goes_on w d o = rw (add-one reads, next_reader) (was_fed reads r buffer count run came (rw (answers, d) at w) (rw next_reader at o))
 
   pub is_over_lem : {done : Bool} → Went (take n out') done → done ≡ true → is_over f.reader ≡ true → Ran (reads + 1) f.reader Over
   is_over_lem w d o = rw (add-one reads, next_reader) (full reads r buffer count run came (rw (answers, d) at w) (rw next_reader at o))
@@ -65,10 +65,10 @@ module _ {reads : ℕ} {r : BookReader} (buffer : List ℕ) (count : ℕ) (run :
 
 -- ---- the read brought nothing
 module _ {reads : ℕ} {r : BookReader} (buffer : List ℕ) {report : Report} (run : Ran reads r More) (came : Came reads buffer report) where
-  pub ends : report ≡ input-ended → Ran (reads + 1) r End
+  pub ends : report ≡ input_ended → Ran (reads + 1) r End
   ends e = rw (add-one reads) (ended reads r buffer run (rw e at came))
 
-  pub fails : report ≡ read-failed → Complained not_read → Ran (reads + 1) r Failed
+  pub fails : report ≡ read_failed → Complained not_read → Ran (reads + 1) r Failed
   fails e told = rw (add-one reads) (unread reads r buffer run (rw e at came) told)
 
 -- ---- turn after turn

@@ -2,7 +2,7 @@
 -- other way. Assumes nothing.
 use Rattle.std.specs.Prelude.{ℕ, suc, Bool, true, false, List, [], ◌∷◌, ◌++◌, ◌≡◌, take}
 use Rattle.text.specs.Letters.{word}
-use Rattle.stdio.specs.declared.Report.TheVariants.{Bytes, End as input-ended, Failed as read-failed}
+use Rattle.stdio.specs.declared.Report.TheVariants.{Bytes, End as input_ended, Failed as read_failed}
 use Rattle.stdio.specs.Marks.{Came, Went, Complained}
 use Rattle.book.specs.declared.BookReader.{BookReader}
 use Rattle.book.specs.Reader.{new_reader, is_over, after, said, last_words}
@@ -35,10 +35,10 @@ pub data Ran : ℕ → BookReader → Next → Type 0 where
       → is_over (after r (take count buffer)) ≡ true
       → Ran (suc reads) (after r (take count buffer)) Over
   -- The read reported the end of the input.
-  ended : (reads : ℕ) (r : BookReader) (buffer : List ℕ) → Ran reads r More → Came reads buffer input-ended → Ran (suc reads) r End
+  ended : (reads : ℕ) (r : BookReader) (buffer : List ℕ) → Ran reads r More → Came reads buffer input_ended → Ran (suc reads) r End
   -- The read failed, and the program said so.
   unread : (reads : ℕ) (r : BookReader) (buffer : List ℕ)
-      → Ran reads r More → Came reads buffer read-failed → Complained not_read
+      → Ran reads r More → Came reads buffer read_failed → Complained not_read
       → Ran (suc reads) r Failed
   -- The write failed, and the program said so.
   unwritten : (reads : ℕ) (r : BookReader) (buffer : List ℕ) (count : ℕ)

@@ -32,7 +32,7 @@ struct PublicConstants {
 }
 
 // Why a line is refused, with the number of each refusal.
-#[derive(Drop)]
+#[derive(Clone, Copy)]
 pub enum Refusal {
     TooLong = 1,
     NotFourFields = 2,
@@ -59,14 +59,14 @@ pub struct Capture {
     pub samples: [u8; DALI_RX_SAMPLE_BUF_LEN],
 }
 
-#[derive(Drop)]
+#[derive(Clone, Copy)]
 pub enum BookLineAnswer {
     Good,
     Refused(Refusal),
 }
 
 // The capture stands beside the answer, since an enum holds no array. A refused line has an empty one.
-#[derive(Drop)]
+#[derive(Clone, Copy)]
 pub struct BookLine {
     pub answer: BookLineAnswer,
     pub capture: Capture,

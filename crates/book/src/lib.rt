@@ -47,13 +47,13 @@ pub struct BookReader {
 }
 
 // How many bytes were written at the start of the buffer. `NoRoom` tells that the buffer is too short and nothing was done.
-#[derive(Drop)]
+#[derive(Clone, Copy)]
 pub enum Said {
     Bytes(usize),
     NoRoom,
 }
 
-#[derive(Drop)]
+#[derive(Clone, Copy)]
 pub struct Fed {
     pub reader: BookReader,
     pub said: Said,

@@ -43,10 +43,9 @@ fn main(rt: HostRuntime) {
     let mut sender = DaliBitbangPhy::new();
     let mut listener = DaliBitbangPhy::new();
     let frame = HalfBitBuffer::encode(16, 0xa5, 0x00, 0);
-    let again = HalfBitBuffer::encode(16, 0xa5, 0x00, 0);
     sender = told(&rt, sender.start_tx(frame.buffer));
     // The second start is refused, because the first frame is not sent yet.
-    sender = told(&rt, sender.start_tx(again.buffer));
+    sender = told(&rt, sender.start_tx(frame.buffer));
     let mut line_is_high = true;
     let mut tick: u8 = 0;
     while tick < 230 {

@@ -10,21 +10,21 @@ ghost use Rattle.halfbits.specs.HalfBits.{half_bits_of};
 ghost use Rattle.halfbits.specs.Encoding.{is_bit_count, frame_of, encode_answer_number, encode_number, answer_of, written_to, empty_buffer, encoded_of};
 ghost use Rattle.halfbits.specs.Code.{half_bits, bytes_in};
 
-#[derive(Drop)]
+#[derive(Clone, Copy)]
 pub struct HalfBitBuffer {
     pub data: [u8; HalfBitBuffer::DATA_LEN],
     pub length: u8,
 }
 
 // The encoder answers with the length in half-bits, or with a refusal: 5 for the bit count, 6 for a short buffer.
-#[derive(Drop)]
+#[derive(Clone, Copy)]
 pub enum EncodeAnswer {
     Length(u8),
     BadBitCount,
     ShortBuffer,
 }
 
-#[derive(Drop)]
+#[derive(Clone, Copy)]
 pub struct Encoded {
     pub buffer: HalfBitBuffer,
     pub answer: EncodeAnswer,

@@ -8,7 +8,7 @@ use Rattle.walk.proofs.Answers.{Computes}
 use Rattle.capture.specs.Samples.{with_byte}
 use Rattle.machine.specs.Runs.{runs_counted}
 use Rattle.machine.specs.Idle.{silent, idle_tick}
-use Rattle.machine.specs.Sending.{tx_step, is_hold, tx_tick, held as held-half-bit}
+use Rattle.machine.specs.Sending.{tx_step, is_hold, tx_tick, held as held_half_bit}
 use Rattle.machine.specs.Collision.{collision_tick}
 use Rattle.machine.proofs.Core.count_runs.Symbol as count_runs_code
 use Rattle.machine.proofs.Core.count_idle.Symbol as count_idle_code
@@ -33,7 +33,7 @@ module _ {M : Type 1} {𝓤 : Ura M} (𝓛 : Logic 𝓤) where
     pub count_idle : Computes C count_idle_code.name (core_data 𝓛 ∷ []) (core_data 𝓛) (λ a. silent a.0)
     pub tick_idle : Computes C tick_idle_code.name (core_data 𝓛 ∷ level_data 𝓛 ∷ []) (core_data 𝓛) (λ a. idle_tick a.0 a.1.0)
     pub holds : Computes C holds_code.name (core_data 𝓛 ∷ hb_data 𝓛 ∷ level_data 𝓛 ∷ []) (level_data 𝓛) (λ a. is_hold (tx_step a.0.tx a.0.collision_policy a.1.0 a.1.1.0))
-    pub hold_half_bit : Computes C hold_half_bit_code.name (core_data 𝓛 ∷ []) (core_data 𝓛) (λ a. held-half-bit a.0)
+    pub hold_half_bit : Computes C hold_half_bit_code.name (core_data 𝓛 ∷ []) (core_data 𝓛) (λ a. held_half_bit a.0)
     pub tick_tx : Computes C tick_tx_code.name (core_data 𝓛 ∷ hb_data 𝓛 ∷ level_data 𝓛 ∷ []) (core_data 𝓛) (λ a. tx_tick a.0 a.1.0 a.1.1.0)
     pub tick_collision_tx : Computes C tick_collision_tx_code.name (core_data 𝓛 ∷ level_data 𝓛 ∷ []) (core_data 𝓛) (λ a. collision_tick a.0 a.1.0)
     pub fill : Computes C fill_code.name (bytes_data 𝓛 ∷ rx_data 𝓛 ∷ level_data 𝓛 ∷ []) (bytes_data 𝓛) (λ a. with_byte a.0 (min a.1.0.rx_pos 63) (shifted a.1.0 a.1.1.0))

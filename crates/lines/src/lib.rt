@@ -34,7 +34,7 @@ pub struct Lines {
 }
 
 // What `take` answers: how many bytes of the line are held now, the place in the chunk to go on from, and whether the line has ended.
-#[derive(Drop)]
+#[derive(Clone, Copy)]
 pub struct Taken {
     pub len: usize,
     pub next: usize,

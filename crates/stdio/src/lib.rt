@@ -10,7 +10,7 @@ ghost use Rattle.stdio.specs.Marks.{Came, Went, Complained, Within};
 use std::io::Read;
 
 // What a read reported: that many bytes, at the start of the buffer; the end of the input; or a failure.
-#[derive(Drop)]
+#[derive(Clone, Copy)]
 pub enum Report {
     Bytes(usize),
     End,

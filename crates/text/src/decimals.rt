@@ -7,13 +7,13 @@ ghost use Rattle.text.specs.Code.{Put, digits};
 use crate::writing;
 
 // What a field says in decimal or in hex: a number, or nothing of that form.
-#[derive(Drop)]
+#[derive(Clone, Copy)]
 pub enum Number {
     Is(u64),
     Bad,
 }
 
-#[derive(Drop)]
+#[derive(Clone, Copy)]
 pub enum Byte {
     Is(u8),
     Bad,

@@ -7,7 +7,7 @@ ghost use Rattle.text.specs.Code.{minus_and};
 use crate::decimals::Byte;
 use crate::{decimals, writing};
 
-#[derive(Drop)]
+#[derive(Clone, Copy)]
 pub enum Signed {
     Is(i8),
     Bad,
