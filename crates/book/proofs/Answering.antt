@@ -40,6 +40,23 @@ module _ (c : Counts) (place next : ℕ) (before after : List ℕ) (h : place + 
         left = rw (← add-one c.lines) wrote.1;
       }
 
+  module _ (capture : Capture) (reading : Reading) (decoded : ℕ) (is : reading ≡ reading_of capture) where
+    pub capture_line : next ≡ place_after row_max (row_text (c.lines + 1) capture reading) place before
+        → after ≡ buffer_after row_max (row_text (c.lines + 1) capture reading) place before → next ≤ place + row_max
+        → decoded ≡ pick (is_decoded reading) (one_more c.decoded) c.decoded
+        → Answered c Good capture place before after
+        (record { counts = record { lines = c.lines + 1; decoded = decoded; refused = c.refused }; at = next })
+    unfolding counted_as is_decoded_as is_refused_as answer_as pick
+    capture_line past left within e =
+        let wrote = stored row_max (row_text (c.lines + 1) capture reading) place before h (past, left) in
+        let counts : decoded ≡ pick (is_decoded (reading_of capture)) (one_more c.decoded) c.decoded = rw is at e in
+        record {
+          counts = ap (λ (n : ℕ). record { lines = c.lines + 1; decoded = n; refused = c.refused }) counts;
+          past = rw (← add-one c.lines, ← is) wrote.0;
+          within = within;
+          left = rw (← add-one c.lines, ← is) wrote.1;
+        }
+
 -- the answer to a capture, part by part
 module _ (c : Counts) (capture : Capture) where
   pub row_decoded : is_decoded (reading_of capture) ≡ true
