@@ -11,7 +11,7 @@ use lib.ListN.{length}
 use lib.Seq.{take-nil}
 use borrow.Author.Tests.{lt-ltb, le-ltb}
 use Rattle.lines.specs.declared.Lines.{Lines}
-use Rattle.lines.specs.Chunk.{ended, after as linesAfter}
+use Rattle.lines.specs.Chunk.{ended, after as lines_after}
 use Rattle.lines.proofs.Steps.{none_ends, none_kept}
 use Rattle.bench_answers.specs.declared.Counts.{Counts}
 use Rattle.book.specs.declared.BookReader.{BookReader}
@@ -39,7 +39,7 @@ module _ (n : ℕ) where
 
 -- ---- a line ends
 module _ (r : BookReader) (chunk rest line : List ℕ) (next : Lines) (ends : ended r.lines chunk ≡ line ∷ ended next rest)
-    (goes : linesAfter r.lines chunk ≡ linesAfter next rest) where
+    (goes : lines_after r.lines chunk ≡ lines_after next rest) where
   module _ (h : r.counts.lines < lines_max) where
     pub read_said : said r chunk ≡ answer_text (suc r.counts.lines) line ++ said (reader next (counted r.counts line) r.over) rest
     unfolding said answers_from counted_as
@@ -64,7 +64,7 @@ module _ (r : BookReader) (chunk rest line : List ℕ) (next : Lines) (ends : en
     passed_after = rw (ends, goes, none_more r.counts.lines h, lt-ltb 0 (suc (length (ended next rest))) (omega arith), or-true r.over)
 
 -- ---- no line ends, and all the chunk waits
-module _ (r : BookReader) (chunk : List ℕ) (next : Lines) (none : ended r.lines chunk ≡ []) (waits : linesAfter r.lines chunk ≡ next) where
+module _ (r : BookReader) (chunk : List ℕ) (next : Lines) (none : ended r.lines chunk ≡ []) (waits : lines_after r.lines chunk ≡ next) where
   pub waits_said : said r chunk ≡ said (reader next r.counts r.over) []
   unfolding said
   waits_said = rw (none, none_ends next)

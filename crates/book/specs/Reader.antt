@@ -3,7 +3,7 @@ use Rattle.std.specs.Prelude.{ℕ, suc, ◌+◌, ◌*◌, ◌-◌, min, Bool, fa
 use Rattle.std.proofs.lemmas.List.Edits.{sets}
 use Rattle.laws.specs.Pick.{pick}
 use Rattle.lines.specs.Lines.{new_lines}
-use Rattle.lines.specs.Chunk.{ended, after as linesAfter}
+use Rattle.lines.specs.Chunk.{ended, after as lines_after}
 use Rattle.lines.specs.AnyChunks.{last_of}
 use Rattle.bench_text.specs.declared.BookLineAnswer.{BookLineAnswer}
 use Rattle.bench_text.specs.declared.Capture.{Capture}
@@ -62,7 +62,7 @@ read_of r lines = take (lines_max - r.counts.lines) lines
 unfoldable pub after : BookReader → List ℕ → BookReader
 after r chunk =
     record {
-      lines = linesAfter r.lines chunk;
+      lines = lines_after r.lines chunk;
       counts = counted_over r.counts (read_of r (ended r.lines chunk));
       over = r.over || ltb (lines_max - r.counts.lines) (length (ended r.lines chunk));
     }
