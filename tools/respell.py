@@ -1,7 +1,7 @@
 #!/usr/bin/env python3
 """Brings the names that this repository's own definitions, lemmas and proofs gave themselves to the spelling of the kit: words in snake case.
 
-usage: tools/respell.py         at the top, once, after /opt/rattle/port/port.py
+usage: tools/respell.py         at the top, once, after the kit's port/port.py
        tools/respell.py --dry   prints the names that would fall together, and changes nothing
 
 A name is turned if a file of specs/ or proofs/ declares it: with a capital inside (`bitWeight`) or with a dash (`rising-is-odd`). The kit's own names,
