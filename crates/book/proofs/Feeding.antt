@@ -26,7 +26,7 @@ use Rattle.book.proofs.Steps.{reader, read_said, read_after, passed_said, passed
 
 pub not_fed : (r : BookReader) (chunk buffer : List ℕ) → length buffer < feed_max chunk
     → (record { reader = r; said = Err no_room } ≡ fed r chunk (length buffer)) × ((buffer ≡ buffer_fed r chunk buffer) × (bytes_in (Err no_room) ≤ length buffer))
-unfolding fed buffer_fed bytes_in
+unfolding fed buffer_fed
 not_fed r chunk buffer h = let short = lt-leb (feed_max chunk) (length buffer) h in (sym (on_false short _ _), (sym (on_false short _ _), omega arith))
 
 -- With the chunk taken in up to a place, the reader r, the buffer and the place in it are on their way to where the whole chunk leads from r₀.
@@ -124,7 +124,7 @@ module _ {chunk before : List ℕ} {r₀ : BookReader} {buffer : List ℕ} {r : 
     -- the whole chunk is taken in
     pub is_fed : feed_max chunk ≤ length before
         → (record { reader = r; said = Ok place } ≡ fed r₀ chunk (length before)) × ((buffer ≡ buffer_fed r₀ chunk before) × (bytes_in (Ok place) ≤ length before))
-    unfolding fed buffer_fed bytes_in
+    unfolding fed buffer_fed
     is_fed room =
         let enough = le-leb (feed_max chunk) (length before) room in (
           rw (led, all_told) (sym (on_true enough _ _)),

@@ -52,7 +52,7 @@ module _ (r : BookReader) where
 -- ---- what is written
 module _ (r : BookReader) (buffer : List ℕ) where
   pub too_short : length buffer < finish_max → (Err no_room ≡ finished r (length buffer)) × (buffer ≡ buffer_finished r buffer) × (bytes_in (Err no_room) ≤ length buffer)
-  unfolding finished buffer_finished bytes_in
+  unfolding finished buffer_finished
   too_short h = let short = lt-leb finish_max (length buffer) h in (sym (on_false short _ _), sym (on_false short _ _), omega arith)
 
   module _ (h : finish_max ≤ length buffer) (n : ℕ) (buffer' : List ℕ) where
@@ -60,7 +60,7 @@ module _ (r : BookReader) (buffer : List ℕ) where
     Finished = (Ok n ≡ finished r (length buffer)) × (buffer' ≡ buffer_finished r buffer) × (bytes_in (Ok n) ≤ length buffer)
 
     says : (text : List ℕ) → last_words r ≡ text → n ≡ 0 + length text → buffer' ≡ sets buffer 0 text → n ≤ finish_max → Finished
-    unfolding finished buffer_finished bytes_in
+    unfolding finished buffer_finished
     says text e past left most =
         let room = le-leb finish_max (length buffer) h in
         let all : n ≡ length (last_words r) = past ∙ omega arith ∙ ap length (sym e) in

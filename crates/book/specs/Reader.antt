@@ -1,5 +1,6 @@
 -- Document 01, "The bench reader": a reader that is fed chunk by chunk, what it has counted, and what it says. Assumes nothing.
 use Rattle.std.specs.Prelude.{ℕ, suc, ◌+◌, ◌*◌, ◌-◌, min, Bool, false, ◌&&◌, ◌||◌, List, [], ◌∷◌, ◌++◌, Result, Ok, Err, ltb, leb, length, take}
+use Rattle.std.specs.Result.{result_unwrap_or}
 use Rattle.std.proofs.lemmas.List.Edits.{sets}
 use Rattle.laws.specs.Pick.{pick}
 use Rattle.lines.specs.Lines.{new_lines}
@@ -72,9 +73,8 @@ said r chunk = answers_from (suc r.counts.lines) (read_of r (ended r.lines chunk
 
 -- ---- what was written
 -- how many bytes were written at the start of the buffer
-unfoldable pub bytes_in : Result ℕ NoRoom → ℕ
-bytes_in (Ok n) = n
-bytes_in (Err short) = 0
+abbrev pub bytes_in : Result ℕ NoRoom → ℕ
+bytes_in said = result_unwrap_or said 0
 
 -- Room for one row for each byte of the chunk is always enough. With less room nothing is done.
 abbrev pub feed_max : List ℕ → ℕ
