@@ -6,15 +6,16 @@ use native.Mathlib.Omega.{arith}
 use mathlib.Core.Bool.{Bool, false}
 use mathlib.Core.List.{List, [], ◌∷◌}
 use mathlib.Core.Path.{◌≡◌, sym, ap, ◌∙◌}
-use lib.ListN.{length, take, drop, set, length-drop}
+use lib.ListN.{length, take, drop, set, length-drop, length-take}
 use lib.Seq.{sets, take-nil}
-use borrow.Author.Tests.{le-ltb}
+use borrow.Author.Tests.{le-ltb, lt-leb}
 use Rattle.laws.specs.Bit.{bit}
 use Rattle.text.specs.Letters.{lf}
 use Rattle.text.specs.Fields.{bytes_before}
+use Rattle.text.specs.Writing.{place_past, buffer_with}
 use Rattle.text.proofs.FieldLaws.{mark_end}
+use Rattle.text.proofs.WritingLaws.{unwritten, stored}
 use Rattle.lines.specs.declared.Lines.{Lines}
-use Rattle.lines.specs.declared.Taken.{Taken}
 use Rattle.lines.specs.Lines.{line_room, held_by, extended, part_from, ends_from, taken}
 
 pub same : {held other : List ℕ} {len count : ℕ} → held ≡ other → len ≡ count → held_by held len ≡ held_by other count
@@ -49,29 +50,35 @@ kept_byte lines byte bytes = split (dec_lt lines.len line_room)
         ap (λ (l : Lines). extended l bytes) (kept_one lines byte h) ∙ same (rw (some, add-one lines.len)) (omega arith)
     split (no h) = ap (λ (l : Lines). extended l bytes) (kept_full lines (byte ∷ []) (omega arith)) ∙ kept_full lines bytes (omega arith) ∙ sym (kept_full lines (byte ∷ bytes) (omega arith))
 
--- ---- what `take` leaves
-module _ (held : List ℕ) (len : ℕ) (chunk : List ℕ) (from : ℕ) where
-  abbrev pub Took : Taken → List ℕ → Type 0
-  Took r after = (r ≡ taken (held_by held len) chunk from) × (after ≡ (extended (held_by held len) (part_from chunk from)).held)
+-- as many bytes as there is room for have room
+pub kept_put : (lines : Lines) (bytes : List ℕ) → length lines.held ≡ line_room → {text : List ℕ} → text ≡ take (line_room - lines.len) bytes
+    → {count : ℕ} {after : List ℕ} → count ≡ place_past text lines.len lines.held → after ≡ buffer_with text lines.len lines.held
+    → held_by after count ≡ extended lines bytes
+unfolding extended
+kept_put lines bytes whole {text} t {count} {after} p b = split (dec_lt line_room lines.len)
+  where
+    size : length text ≡ min (line_room - lines.len) (length bytes)
+    size = ap length t ∙ length-take (line_room - lines.len) bytes
 
+    split : Dec (line_room < lines.len) → held_by after count ≡ extended lines bytes
+    split (yes over) =
+        let none = unwritten (length text) text lines.len lines.held (lt-leb (lines.len + length text) (length lines.held) (omega arith)) in
+        same (b ∙ sym none.1) (p ∙ sym none.0) ∙ sym (kept_full lines bytes (omega arith))
+    split (no within) =
+        let put = stored (length text) text lines.len lines.held (omega (arith, size)) (p, b) in
+        same (put.1 ∙ ap (sets lines.held lines.len) t) (omega (arith, put.0, size))
+
+-- ---- what `take` leaves
+module _ (chunk : List ℕ) (from : ℕ) where
   -- a part was kept; t tells whether an LF stood behind it
-  pub part_taken : {end next count : ℕ} {after : List ℕ} (t : Bool) → ends_from chunk from ≡ t → end ≡ from + bytes_before lf (drop from chunk) → next ≡ end + bit t
-      → (count ≡ len + min (length (take (end - from) (drop from chunk))) (line_room - len))
-      × (after ≡ sets held len (take (line_room - len) (take (end - from) (drop from chunk))))
-      → Took (record { len = count; next = next; ended = t }) after
-  unfolding taken extended
-  part_taken {end} t e f n k =
-      let size : end - from ≡ bytes_before lf (drop from chunk) = omega arith in
-      (rw (e, k.0, n, size, f), k.1 ∙ rw size)
+  pub part_taken : {end next : ℕ} (t : Bool) → ends_from chunk from ≡ t → end ≡ from + bytes_before lf (drop from chunk) → next ≡ end + bit t
+      → (record { next = next; ended = t } ≡ taken chunk from) × (take (end - from) (drop from chunk) ≡ part_from chunk from)
+  unfolding taken
+  part_taken {end} t e f n = let size : end - from ≡ bytes_before lf (drop from chunk) = omega arith in (rw (e, n, f), rw size)
 
   -- nothing was left of the chunk
-  pub none_taken : length chunk ≤ from → Took (record { len = len; next = from; ended = false }) held
+  pub none_taken : length chunk ≤ from → (record { next = from; ended = false } ≡ taken chunk from) × ((lines : Lines) → lines ≡ extended lines (part_from chunk from))
   none_taken h =
-      let size : from - from ≡ 0 = omega arith in
-      let part : take (from - from) (drop from chunk) ≡ [] = rw size in
       let before = mark_end lf chunk from h in
-      part_taken {end = from} false
-      (le-ltb (bytes_before lf (drop from chunk)) (length (drop from chunk)) (simp length-drop (omega arith)))
-      (omega arith)
-      (omega arith)
-      (rw part (omega arith), rw (part, take-nil))
+      let over = le-ltb (bytes_before lf (drop from chunk)) (length (drop from chunk)) (simp length-drop (omega arith)) in
+      ((part_taken {end = from} false over (omega arith) (omega arith)).0, λ lines. rw before (sym (kept_none lines)))

@@ -10,7 +10,7 @@ use Rattle.laws.proofs.Picked.{cases}
 use Rattle.text.specs.Letters.{lf}
 use Rattle.text.specs.Fields.{fields_at}
 use Rattle.lines.specs.declared.Lines.{Lines}
-use Rattle.lines.specs.Lines.{line_room, waiting, extended, emptied, part_from, taken}
+use Rattle.lines.specs.Lines.{line_room, waiting, extended, emptied}
 use Rattle.lines.specs.Chunk.{ended_parts, after_parts, ended, after}
 use Rattle.lines.specs.AnyChunks.{last_of}
 
@@ -25,10 +25,6 @@ kept_held lines bytes = length-sets lines.held lines.len (take (line_room - line
 
 pub waiting_within : (lines : Lines) → lines.len ≤ line_room → length (waiting lines) ≤ line_room
 waiting_within lines h = omega (arith, length-take lines.len lines.held)
-
-pub taken_within : (lines : Lines) (chunk : List ℕ) (from : ℕ) → lines.len ≤ line_room → (taken lines chunk from).len ≤ line_room
-unfolding taken
-taken_within lines chunk from h = kept_within lines (part_from chunk from) h
 
 -- ---- the lines of a chunk
 -- each of these lines has room

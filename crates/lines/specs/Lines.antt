@@ -46,11 +46,7 @@ part_from chunk from = take (bytes_before lf (drop from chunk)) (drop from chunk
 abbrev pub ends_from : List ℕ → ℕ → Bool
 ends_from chunk from = ltb (bytes_before lf (drop from chunk)) (length (drop from chunk))
 
--- These bytes are added to the unfinished line. If an LF follows them, the line ends, and the next place is past the LF.
-unfoldable pub taken : Lines → List ℕ → ℕ → Taken
-taken lines chunk from =
-    record {
-      len = (extended lines (part_from chunk from)).len;
-      next = from + bytes_before lf (drop from chunk) + bit (ends_from chunk from);
-      ended = ends_from chunk from;
-    }
+-- If an LF follows these bytes, the line ends, and the next place is past the LF.
+unfoldable pub taken : List ℕ → ℕ → Taken
+taken chunk from =
+    record { next = from + bytes_before lf (drop from chunk) + bit (ends_from chunk from); ended = ends_from chunk from }

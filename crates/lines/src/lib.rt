@@ -2,10 +2,9 @@
 // a chunk, one line at a time. It makes no difference where the input is cut into chunks.
 #![tactic(auto)]
 
-ghost use Rattle.std.specs.Prelude.{◌≡◌, ◌+◌, ◌-◌, ◌≤◌, min, length, take as first};
-ghost use Rattle.std.proofs.lemmas.List.Edits.{sets};
+ghost use Rattle.std.specs.Prelude.{◌≡◌};
 ghost use Rattle.lines.specs.Constants.{public_constants};
-ghost use Rattle.lines.specs.Lines.{line_room, new_lines, held_by, extended, part_from, taken};
+ghost use Rattle.lines.specs.Lines.{new_lines, waiting, extended, part_from, taken};
 
 use text::{fields, writing};
 
@@ -33,10 +32,9 @@ pub struct Lines {
     pub len: usize,
 }
 
-// What `take` answers: how many bytes of the line are held now, the place in the chunk to go on from, and whether the line has ended.
+// What `take` answers: the place in the chunk to go on from, and whether the line has ended.
 #[derive(Clone, Copy)]
 pub struct Taken {
-    pub len: usize,
     pub next: usize,
     pub ended: bool,
 }
@@ -50,45 +48,45 @@ impl Lines {
             len: 0,
         }
     }
-}
 
-// Takes in the bytes of the chunk from `from` on, up to the first LF or the end of the chunk. If the line has ended, the first bytes of `held` are
-// the line without its LF, and the caller takes in the next line with a `len` of 0.
-pub fn take(held: &mut [u8; LINE_ROOM], len: usize, chunk: &[u8], from: usize) -> Taken
-    ensures value { result ≡ taken (held_by held.old len) chunk.now from }
-    ensures held_after { held.new ≡ (extended (held_by held.old len) (part_from chunk.now from)).held }
-{
-    if chunk.len() <= from {
-        return Taken {
-            len,
-            next: from,
-            ended: false,
-        };
+    // The bytes of the unfinished line.
+    pub fn line(&self) -> &[u8]
+        ensures { result.now ≡ waiting self.now }
+    {
+        fields::first(&self.held, self.len)
     }
-    let end = fields::find(chunk, b'\n', from);
-    let count = keep(held, len, &chunk[from..end]);
-    if end == chunk.len() {
-        return Taken {
-            len: count,
-            next: end,
-            ended: false,
-        };
-    }
-    let next = end + 1;
-    Taken {
-        len: count,
-        next,
-        ended: true,
-    }
-}
 
-// Adds bytes to the unfinished line, and answers how many it then has. Bytes without room are dropped.
-fn keep(held: &mut [u8; LINE_ROOM], len: usize, bytes: &[u8]) -> usize
-    ensures value { result ≡ len + min (length bytes.now) (line_room - len) }
-    ensures held_after { held.new ≡ sets held.old len (first (line_room - len) bytes.now) }
-{
-    if LINE_ROOM <= len {
-        return len;
+    // Takes in the bytes of the chunk from `from` on, up to the first LF or the end of the chunk. If the line has ended, its bytes without the LF are
+    // held, and the caller takes in the next line with a `len` of 0.
+    pub fn take(&mut self, chunk: &[u8], from: usize) -> Taken
+        ensures value { result ≡ taken chunk.now from }
+        ensures lines_after { self.new ≡ extended self.old (part_from chunk.now from) }
+    {
+        if chunk.len() <= from {
+            return Taken {
+                next: from,
+                ended: false,
+            };
+        }
+        let end = fields::find(chunk, b'\n', from);
+        self.keep(&chunk[from..end]);
+        if end == chunk.len() {
+            return Taken {
+                next: end,
+                ended: false,
+            };
+        }
+        Taken {
+            next: end + 1,
+            ended: true,
+        }
     }
-    writing::put_text(held, len, fields::first(bytes, LINE_ROOM - len))
+
+    // Adds bytes to the unfinished line. Bytes without room are dropped.
+    fn keep(&mut self, bytes: &[u8])
+        ensures { self.new ≡ extended self.old bytes.now }
+    {
+        let room = LINE_ROOM.saturating_sub(self.len);
+        self.len = writing::put_text(&mut self.held, self.len, fields::first(bytes, room));
+    }
 }

@@ -17,7 +17,7 @@ use Rattle.text.specs.Decimals.{is_digit, all_digits, is_decimal, value_from, va
 use Rattle.text.specs.ReadBack.{DecimalsBack}
 use Rattle.text.specs.Code.{Put, digits}
 use Rattle.text.proofs.Digits.{Lasts, value_behind, length_lasts}
-use Rattle.text.proofs.DecimalLaws.{both_true, decimals, number_good, byte_good}
+use Rattle.text.proofs.DecimalLaws.{both_true, decimals, number_good}
 
 -- ---- the digits of a number
 pub last_digits : Lasts 10 (λ n. digit_of (n % 10)) digits
@@ -176,4 +176,4 @@ pub decimals_back : DecimalsBack
 decimals_back most n low h =
     let was = decimal_back n h in
     let read = number_good most (decimal_of n) was.0 n (sym was.1) low in
-    (sym read, sym (byte_good most (decimal_of n) read n refl))
+    (sym read, sym read)

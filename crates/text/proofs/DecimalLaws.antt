@@ -9,14 +9,12 @@ use lib.Dec.{eqb, ltb}
 use lib.ListN.{length, get_or, drop, drop_of_length-le}
 use lib.Seq.{drop-cons}
 use borrow.Author.Tests.{le-leb, lt-leb, leb-true, ltb-false}
+use Rattle.std.proofs.lemmas.Option.{none-some, same_Some}
 use Rattle.laws.specs.Pick.{pick}
 use Rattle.laws.proofs.Picked.{on_true, on_false, cases}
-use Rattle.text.specs.declared.decimals.Number.{Number}
-use Rattle.text.specs.declared.decimals.Number.TheVariants.{Is as a_number, Bad as no_number}
-use Rattle.text.specs.declared.decimals.Byte.{Byte}
-use Rattle.text.specs.declared.decimals.Byte.TheVariants.{Is as a_byte, Bad as no_byte}
+use Rattle.std.specs.Prelude.{Option, Some, None}
 use Rattle.text.specs.Letters.{letter}
-use Rattle.text.specs.Decimals.{is_digit, all_digits, is_decimal, value_from, value_of, is_up_to, number_in, byte_in}
+use Rattle.text.specs.Decimals.{is_digit, all_digits, is_decimal, value_from, value_of, is_up_to, number_in}
 use Rattle.text.proofs.Digits.{Sums}
 
 -- ---- a digit
@@ -82,77 +80,42 @@ value-≥ n (d ∷ s) = let more = value-≥ (n * 10 + (d - letter "0")) s in om
 
 -- ---- each way in which the code answers on a number
 module _ (most : ℕ) (s : List ℕ) where
-  not_up : is_up_to most s ≡ false → no_number ≡ number_in most s
+  not_up : is_up_to most s ≡ false → None ≡ number_in most s
   unfolding number_in
   not_up e = sym (on_false e _ _)
 
-  pub number_odd : is_decimal s ≡ false → no_number ≡ number_in most s
+  pub number_odd : is_decimal s ≡ false → None ≡ number_in most s
   unfolding is_up_to
   number_odd e = not_up (rw e)
 
-  pub number_high : most < value_of s → no_number ≡ number_in most s
+  pub number_high : most < value_of s → None ≡ number_in most s
   unfolding is_up_to
   number_high h = not_up (rw (lt-leb (value_of s) most h) (and-false (is_decimal s)))
 
-  pub number_good : is_decimal s ≡ true → (n : ℕ) → n ≡ value_of s → n ≤ most → a_number n ≡ number_in most s
+  pub number_good : is_decimal s ≡ true → (n : ℕ) → n ≡ value_of s → n ≤ most → Some n ≡ number_in most s
   unfolding number_in is_up_to
-  number_good e n v h = ap a_number v ∙ sym (on_true (rw (e, le-leb (value_of s) most (omega arith))) _ _)
+  number_good e n v h = ap Some v ∙ sym (on_true (rw (e, le-leb (value_of s) most (omega arith))) _ _)
 
--- ---- what an answer says of the field, of any type whose answers are a number or none
-pub record Answers {A : Type 0} (is : ℕ → A) (none : A) : Type 0 where
-  pub apart : (n : ℕ) → is n ≡ none → ⊥
-  pub same : (m n : ℕ) → is m ≡ is n → m ≡ n
-
-module _ {A : Type 0} {is : ℕ → A} {none : A} (answers : Answers is none) where
-  pub picked_none : (t : Bool) (v : ℕ) → none ≡ pick t (is v) none → t ≡ false
+-- ---- what an answer says of the field
+module _ {A : Type 0} (v : A) where
+  pub picked_none : (t : Bool) → None ≡ pick t (Some v) None → t ≡ false
   unfolding pick
-  picked_none true v e = absurd (answers.apart v (sym e))
-  picked_none false v e = refl
+  picked_none true e = absurd (none-some v e)
+  picked_none false e = refl
 
-  pub picked_is : (t : Bool) (v n : ℕ) → is n ≡ pick t (is v) none → (t ≡ true) × (v ≡ n)
+  pub picked_some : (t : Bool) (w : A) → Some w ≡ pick t (Some v) None → (t ≡ true) × (v ≡ w)
   unfolding pick
-  picked_is true v n e = (refl, sym (answers.same n v e))
-  picked_is false v n e = absurd (answers.apart n e)
+  picked_some true w e = (refl, sym (same_Some w v e))
+  picked_some false w e = absurd (none-some w (sym e))
 
-  module _ (most : ℕ) (s : List ℕ) {r : A} (e : r ≡ pick (is_up_to most s) (is (value_of s)) none) where
-    not_read : r ≡ none → is_up_to most s ≡ false
-    not_read b = picked_none (is_up_to most s) (value_of s) (sym b ∙ e)
-
-    read : (n : ℕ) → r ≡ is n → (is_up_to most s ≡ true) × (value_of s ≡ n) × (n ≤ most)
-    unfolding is_up_to
-    read n b =
-        let was = picked_is (is_up_to most s) (value_of s) n (sym b ∙ e) in
-        let within = leb-true (value_of s) most (both_true (is_decimal s) _ was.0).1 in
-        (was.0, was.1, omega (arith, within, was.1))
-
-numbers : Answers a_number no_number
-numbers = record { apart = λ n e. let z : ◌≡◌ {A = ℕ} 0 1 = cc in omega arith; same = λ m n e. cc }
-
-bytes : Answers a_byte no_byte
-bytes = record { apart = λ n e. let z : ◌≡◌ {A = ℕ} 0 1 = cc in omega arith; same = λ m n e. cc }
-
-module _ (most : ℕ) (s : List ℕ) {r : Number} (e : r ≡ number_in most s) where
-  pub no_number_read : r ≡ no_number → is_up_to most s ≡ false
+module _ (most : ℕ) (s : List ℕ) {r : Option ℕ} (e : r ≡ number_in most s) where
+  pub no_number_read : r ≡ None → is_up_to most s ≡ false
   unfolding number_in
-  no_number_read = not_read numbers most s e
+  no_number_read b = picked_none (value_of s) (is_up_to most s) (sym b ∙ e)
 
-  pub number_read : (n : ℕ) → r ≡ a_number n → (is_up_to most s ≡ true) × (value_of s ≡ n) × (n ≤ most)
-  unfolding number_in
-  number_read = read numbers most s e
-
-  pub byte_bad : r ≡ no_number → no_byte ≡ byte_in most s
-  unfolding byte_in
-  byte_bad b = sym (on_false (no_number_read b) _ _)
-
-  pub byte_good : (n : ℕ) → r ≡ a_number n → a_byte n ≡ byte_in most s
-  unfolding byte_in
-  byte_good n b = let was = number_read n b in ap a_byte (sym was.1) ∙ sym (on_true was.0 _ _)
-
-module _ (most : ℕ) (s : List ℕ) {r : Byte} (e : r ≡ byte_in most s) where
-  pub no_byte_read : r ≡ no_byte → is_up_to most s ≡ false
-  unfolding byte_in
-  no_byte_read = not_read bytes most s e
-
-  pub byte_read : (n : ℕ) → r ≡ a_byte n → (is_up_to most s ≡ true) × (value_of s ≡ n) × (n ≤ most)
-  unfolding byte_in
-  byte_read = read bytes most s e
+  pub number_read : (n : ℕ) → r ≡ Some n → (is_up_to most s ≡ true) × (value_of s ≡ n) × (n ≤ most)
+  unfolding number_in is_up_to
+  number_read n b =
+      let was = picked_some (value_of s) (is_up_to most s) n (sym b ∙ e) in
+      let within = leb-true (value_of s) most (both_true (is_decimal s) _ was.0).1 in
+      (was.0, was.1, omega (arith, within, was.1))

@@ -7,7 +7,7 @@ use lib.ListN.{get_or}
 use Rattle.laws.specs.Pick.{pick}
 use Rattle.text.specs.Letters.{word, lf, space}
 use Rattle.text.specs.Fields.{grow, parted_at, fields_at, count_at, field_at, bytes_before, joined_by}
-use Rattle.text.specs.Words.{same_text, words_of, place_among}
+use Rattle.text.specs.Words.{words_of, place_among}
 use Rattle.text.specs.Writing.{place_after, buffer_after, place_past, buffer_with}
 use Rattle.text.specs.ReadBack.{Without}
 use Rattle.text.proofs.FieldLaws.{fields_back}
@@ -56,11 +56,11 @@ two_fields_back = fields_back space (word "a") (word "b" ∷ []) no_space
 
 -- ---- words
 pub second_word : place_among (word "off") (words_of (word "auto off on")) ≡ 1
-unfolding place_among same_text parted_at grow pick
+unfolding place_among parted_at grow pick
 second_word = refl
 
 pub no_word : place_among (word "o") (words_of (word "auto off on")) ≡ 3
-unfolding place_among same_text parted_at grow pick
+unfolding place_among parted_at grow pick
 no_word = refl
 
 -- ---- writing

@@ -13,7 +13,7 @@ use borrow.Author.Tests.{lt-ltb, le-ltb, ltb-true, le-leb, lt-leb, eq-eqb, eqb-t
 use Rattle.laws.specs.Pick.{pick}
 use Rattle.laws.proofs.Below.{below}
 use Rattle.laws.proofs.Picked.{on_true, on_false}
-use Rattle.text.specs.declared.decimals.Number.TheVariants.{Is as a_number, Bad as no_number}
+use Rattle.std.specs.Prelude.{Some, None}
 use Rattle.text.specs.Letters.{letter}
 use Rattle.text.specs.Decimals.{is_digit}
 use Rattle.text.specs.Hex.{digit_value, hex_digit, all_hex, bytes_of, is_hex, filled_by, hex_of, hexes_of, hex_value_from, hex_number_in, hex_digits_of}
@@ -134,23 +134,23 @@ unfolding hex_value_from
 hexes = record { none = λ n. refl; next = λ n byte text. refl }
 
 module _ (width : ℕ) (f : List ℕ) where
-  no_hex : (leb width 16 && eqb (length f) width && all_hex f) ≡ false → no_number ≡ hex_number_in width f
+  no_hex : (leb width 16 && eqb (length f) width && all_hex f) ≡ false → None ≡ hex_number_in width f
   unfolding hex_number_in
   no_hex e = sym (on_false e _ _)
 
-  pub hex_wide : 16 < width → no_number ≡ hex_number_in width f
+  pub hex_wide : 16 < width → None ≡ hex_number_in width f
   hex_wide h = no_hex (rw (lt-leb width 16 h))
 
-  pub hex_other : (length f ≡ width → ⊥) → no_number ≡ hex_number_in width f
+  pub hex_other : (length f ≡ width → ⊥) → None ≡ hex_number_in width f
   hex_other n = no_hex (rw (ne_eqb (length f) width n, and-false (leb width 16)))
 
-  pub hex_odd : all_hex f ≡ false → no_number ≡ hex_number_in width f
+  pub hex_odd : all_hex f ≡ false → None ≡ hex_number_in width f
   hex_odd e = no_hex (rw e (and-false (leb width 16 && eqb (length f) width)))
 
-  pub hex_number : width ≤ 16 → length f ≡ width → all_hex f ≡ true → (n : ℕ) → n ≡ hex_value_from 0 f → a_number n ≡ hex_number_in width f
+  pub hex_number : width ≤ 16 → length f ≡ width → all_hex f ≡ true → (n : ℕ) → n ≡ hex_value_from 0 f → Some n ≡ hex_number_in width f
   unfolding hex_number_in
   hex_number small len all n e =
-      ap a_number e ∙ sym (on_true (rw (le-leb width 16 small, eq-eqb (length f) width len, all)) _ _)
+      ap Some e ∙ sym (on_true (rw (le-leb width 16 small, eq-eqb (length f) width len, all)) _ _)
 
 -- i digits come to less than 16 ^ i
 pub hexes_below : (i n d : ℕ) → n < 16 ^ i → d ≤ 15 → n * 16 + d < 16 ^ (i + 1)

@@ -5,8 +5,7 @@ use mathlib.Core.List.{[], ◌∷◌}
 use mathlib.Core.Path.{◌≡◌, refl}
 use lib.IntN.{pos, negsuc}
 use Rattle.laws.specs.Pick.{pick}
-use Rattle.text.specs.declared.decimals.Number.TheVariants.{Is as a_number, Bad as no_number}
-use Rattle.text.specs.declared.signed.Signed.TheVariants.{Is as a_signed, Bad as no_signed}
+use Rattle.std.specs.Prelude.{Some, None}
 use Rattle.text.specs.Letters.{word}
 use Rattle.text.specs.Decimals.{is_digit, all_digits, is_decimal, value_from, is_up_to, number_in, decimal_in, decimal_of}
 use Rattle.text.specs.Signed.{below_zero, signed_in, signed_of}
@@ -17,19 +16,19 @@ use Rattle.text.proofs.SignedLaws.{signed_back}
 use Rattle.text.proofs.HexLaws.{hex_back, hex_numbers_back}
 
 -- ---- decimals
-pub highest : number_in 64 (word "64") ≡ a_number 64
+pub highest : number_in 64 (word "64") ≡ Some 64
 unfolding number_in is_up_to is_decimal all_digits is_digit value_from pick
 highest = refl
 
-pub too_high : number_in 64 (word "65") ≡ no_number
+pub too_high : number_in 64 (word "65") ≡ None
 unfolding number_in is_up_to is_decimal all_digits is_digit value_from pick
 too_high = refl
 
-pub zero_in_front : number_in 64 (word "07") ≡ no_number
+pub zero_in_front : number_in 64 (word "07") ≡ None
 unfolding number_in is_up_to is_decimal all_digits is_digit value_from pick
 zero_in_front = refl
 
-pub zero_alone : number_in 64 (word "0") ≡ a_number 0
+pub zero_alone : number_in 64 (word "0") ≡ Some 0
 unfolding number_in is_up_to is_decimal all_digits is_digit value_from pick
 zero_alone = refl
 
@@ -38,15 +37,15 @@ unfolding decimal_in pick
 decimal_said = refl
 
 -- ---- signed numbers
-pub lowest_signed : signed_in (word "-128") ≡ a_signed (negsuc 127)
+pub lowest_signed : signed_in (word "-128") ≡ Some (negsuc 127)
 unfolding signed_in below_zero is_up_to is_decimal all_digits is_digit value_from pick
 lowest_signed = refl
 
-pub highest_signed : signed_in (word "127") ≡ a_signed (pos 127)
+pub highest_signed : signed_in (word "127") ≡ Some (pos 127)
 unfolding signed_in below_zero is_up_to is_decimal all_digits is_digit value_from pick
 highest_signed = refl
 
-pub no_minus_zero : signed_in (word "-0") ≡ no_signed
+pub no_minus_zero : signed_in (word "-0") ≡ None
 unfolding signed_in below_zero is_up_to is_decimal all_digits is_digit value_from pick
 no_minus_zero = refl
 
@@ -63,11 +62,11 @@ pub upper_case : filled_by (word "0FF0") (1 ∷ 2 ∷ []) ≡ 1 ∷ 2 ∷ []
 unfolding filled_by is_hex all_hex bytes_of digit_value is_digit pick
 upper_case = refl
 
-pub hex_read : hex_number_in 3 (word "1ab") ≡ a_number 0x1AB
+pub hex_read : hex_number_in 3 (word "1ab") ≡ Some 0x1AB
 unfolding hex_number_in hex_value_from all_hex digit_value is_digit pick
 hex_read = refl
 
-pub hex_short : hex_number_in 4 (word "1ab") ≡ no_number
+pub hex_short : hex_number_in 4 (word "1ab") ≡ None
 unfolding hex_number_in hex_value_from all_hex digit_value is_digit pick
 hex_short = refl
 
@@ -80,10 +79,10 @@ unfolding hex_digits_of hex_digit pick
 digits_said = refl
 
 -- ---- what the laws of reading back ask for can be met
-pub number_back : number_in 64 (decimal_of 64) ≡ a_number 64
+pub number_back : number_in 64 (decimal_of 64) ≡ Some 64
 number_back = (decimals_back 64 64 (omega arith) (omega arith)).0
 
-pub signed_number_back : signed_in (signed_of (negsuc 4)) ≡ a_signed (negsuc 4)
+pub signed_number_back : signed_in (signed_of (negsuc 4)) ≡ Some (negsuc 4)
 signed_number_back = signed_back.1 4 (omega arith)
 
 two_bytes : AllBytes (0x0F ∷ 0xF0 ∷ [])
@@ -94,5 +93,5 @@ two_bytes (suc (suc i)) = omega arith
 pub bytes_back : filled_by (hexes_of (0x0F ∷ 0xF0 ∷ [])) (1 ∷ 2 ∷ []) ≡ 0x0F ∷ 0xF0 ∷ []
 bytes_back = (hex_back (0x0F ∷ 0xF0 ∷ []) (1 ∷ 2 ∷ []) two_bytes refl).1
 
-pub digits_back : hex_number_in 2 (hex_digits_of 2 0xAB) ≡ a_number 0xAB
+pub digits_back : hex_number_in 2 (hex_digits_of 2 0xAB) ≡ Some 0xAB
 digits_back = hex_numbers_back 2 0xAB (omega arith) (omega arith)

@@ -17,16 +17,13 @@ use mir.ValLaws.{to_z-of_z}
 use Rattle.laws.specs.Pick.{pick}
 use Rattle.laws.proofs.Below.{below, same_z, same→eq}
 use Rattle.laws.proofs.Picked.{on_true, on_false}
-use Rattle.text.specs.declared.decimals.Byte.{Byte}
-use Rattle.text.specs.declared.decimals.Byte.TheVariants.{Is as a_byte, Bad as no_byte}
-use Rattle.text.specs.declared.signed.Signed.{Signed}
-use Rattle.text.specs.declared.signed.Signed.TheVariants.{Is as a_number, Bad as no_number}
+use Rattle.std.specs.Prelude.{Option, Some, None}
 use Rattle.text.specs.Letters.{minus}
 use Rattle.text.specs.Decimals.{is_digit, all_digits, is_decimal, value_from, value_of, is_up_to, byte_in, decimal_in, decimal_of}
 use Rattle.text.specs.Signed.{below_zero, signed_in, signed_of}
 use Rattle.text.specs.ReadBack.{SignedBack}
 use Rattle.text.specs.Code.{minus_and}
-use Rattle.text.proofs.DecimalLaws.{no_byte_read, byte_read}
+use Rattle.text.proofs.DecimalLaws.{no_number_read, number_read}
 use Rattle.text.proofs.DecimalDigits.{length_decimal}
 
 -- ---- each way in which the code answers on what stands behind a minus
@@ -34,35 +31,35 @@ use Rattle.text.proofs.DecimalDigits.{length_decimal}
 minus_kept : (n : ℕ) → n ≤ 128 → to_z w8 (of_z w8 (neg_ℤ (pos n))) ≡ neg_ℤ (pos n)
 minus_kept n h = same→eq _ _ (below (λ n. same_z (to_z w8 (of_z w8 (neg_ℤ (pos n)))) (neg_ℤ (pos n))) 129 tt n (omega arith))
 
-module _ (s : List ℕ) {r : Byte} (e : r ≡ byte_in 128 s) where
-  pub minus_bad : r ≡ no_byte → no_number ≡ below_zero s
+module _ (s : List ℕ) {r : Option ℕ} (e : r ≡ byte_in 128 s) where
+  pub minus_bad : r ≡ None → None ≡ below_zero s
   unfolding below_zero
-  minus_bad b = sym (on_false (rw (no_byte_read 128 s e b)) _ _)
+  minus_bad b = sym (on_false (rw (no_number_read 128 s e b)) _ _)
 
-  module _ (n : ℕ) (b : r ≡ a_byte n) where
-    pub minus_zero : n ≡ 0 → no_number ≡ below_zero s
+  module _ (n : ℕ) (b : r ≡ Some n) where
+    pub minus_zero : n ≡ 0 → None ≡ below_zero s
     unfolding below_zero
     minus_zero z =
-        let was = byte_read 128 s e n b in
+        let was = number_read 128 s e n b in
         sym (on_false (rw (le-ltb 0 (value_of s) (omega (arith, was.1))) (and-false (is_up_to 128 s))) _ _)
 
     pub minus-≤ : n ≤ 128
-    minus-≤ = (byte_read 128 s e n b).2
+    minus-≤ = (number_read 128 s e n b).2
 
-    pub minus_good : (n ≡ 0 → ⊥) → {z : ℤ} → z ≡ neg_ℤ (pos n) → a_number (to_z w8 (of_z w8 z)) ≡ below_zero s
+    pub minus_good : (n ≡ 0 → ⊥) → {z : ℤ} → z ≡ neg_ℤ (pos n) → Some (to_z w8 (of_z w8 z)) ≡ below_zero s
     unfolding below_zero
     minus_good some q =
-        let was = byte_read 128 s e n b in
+        let was = number_read 128 s e n b in
         let high : 0 < value_of s = omega (arith, was.1) in
-        ap (λ (z : ℤ). a_number (to_z w8 (of_z w8 z))) q
-        ∙ ap a_number (minus_kept n was.2 ∙ ap (λ (v : ℕ). neg_ℤ (pos v)) (sym was.1))
+        ap (λ (z : ℤ). Some (to_z w8 (of_z w8 z))) q
+        ∙ ap Some (minus_kept n was.2 ∙ ap (λ (v : ℕ). neg_ℤ (pos v)) (sym was.1))
         ∙ sym (on_true (rw (was.0, lt-ltb 0 (value_of s) high)) _ _)
 
 -- ---- each way in which the code answers on a signed number
 plain_kept : (n : ℕ) → n ≤ 127 → to_z w8 n ≡ pos n
 plain_kept n h = same→eq _ _ (below (λ n. same_z (to_z w8 n) (pos n)) 128 tt n (omega arith))
 
-pub signed_none : (s : List ℕ) → length s ≡ 0 → no_number ≡ signed_in s
+pub signed_none : (s : List ℕ) → length s ≡ 0 → None ≡ signed_in s
 unfolding signed_in is_up_to is_decimal pick
 signed_none [] e = refl
 signed_none (x ∷ s) e = absurd (omega (arith, e))
@@ -71,25 +68,25 @@ module _ (s : List ℕ) where
   all_behind : take (length s - 1) (drop 1 s) ≡ drop 1 s
   all_behind = take_all (length s - 1) (drop 1 s) (simp length-drop (omega arith))
 
-  pub signed_minus : get_or s 0 0 ≡ minus → {z : Signed} → z ≡ below_zero (take (length s - 1) (drop 1 s)) → z ≡ signed_in s
+  pub signed_minus : get_or s 0 0 ≡ minus → {z : Option ℤ} → z ≡ below_zero (take (length s - 1) (drop 1 s)) → z ≡ signed_in s
   unfolding signed_in
   signed_minus m e = e ∙ ap below_zero all_behind ∙ sym (on_true (eq-eqb (get_or s 0 0) minus m) _ _)
 
-  module _ (m : get_or s 0 0 ≡ minus → ⊥) {r : Byte} (e : r ≡ byte_in 127 s) where
-    plain : signed_in s ≡ pick (is_up_to 127 s) (a_number (pos (value_of s))) no_number
+  module _ (m : get_or s 0 0 ≡ minus → ⊥) {r : Option ℕ} (e : r ≡ byte_in 127 s) where
+    plain : signed_in s ≡ pick (is_up_to 127 s) (Some (pos (value_of s))) None
     unfolding signed_in
     plain = on_false (ne_eqb (get_or s 0 0) minus m) _ _
 
-    pub signed_bad : r ≡ no_byte → no_number ≡ signed_in s
-    signed_bad b = sym (plain ∙ on_false (no_byte_read 127 s e b) _ _)
+    pub signed_bad : r ≡ None → None ≡ signed_in s
+    signed_bad b = sym (plain ∙ on_false (no_number_read 127 s e b) _ _)
 
-    pub signed-≤ : (n : ℕ) → r ≡ a_byte n → n ≤ 127
-    signed-≤ n b = (byte_read 127 s e n b).2
+    pub signed-≤ : (n : ℕ) → r ≡ Some n → n ≤ 127
+    signed-≤ n b = (number_read 127 s e n b).2
 
-    pub signed_good : (n : ℕ) → r ≡ a_byte n → a_number (to_z w8 n) ≡ signed_in s
+    pub signed_good : (n : ℕ) → r ≡ Some n → Some (to_z w8 n) ≡ signed_in s
     signed_good n b =
-        let was = byte_read 127 s e n b in
-        ap a_number (plain_kept n was.2 ∙ ap pos (sym was.1)) ∙ sym (plain ∙ on_true was.0 _ _)
+        let was = number_read 127 s e n b in
+        ap Some (plain_kept n was.2 ∙ ap pos (sym was.1)) ∙ sym (plain ∙ on_true was.0 _ _)
 
 -- ---- what is written, by the magnitude of a number that went through its bits
 under : (z : ℤ) → lt_z z (pos 0) ≡ true → signed_of z ≡ minus_and (nat_abs z)
@@ -114,13 +111,13 @@ length_signed (pos n) h = let small : n < 1000 = omega arith in omega (arith, le
 length_signed (negsuc n) h = let small : suc n < 1000 = omega arith in omega (arith, length_decimal 10 2 (suc n) small)
 
 -- ---- what is written is read back, by a computed test of all that fit
-abbrev tells : Signed → ℤ → Bool
-tells (a_number y) z = same_z y z
-tells no_number z = false
+abbrev tells : Option ℤ → ℤ → Bool
+tells (Some y) z = same_z y z
+tells None z = false
 
-tells→eq : (r : Signed) (z : ℤ) → T (tells r z) → r ≡ a_number z
-tells→eq (a_number y) z t = ap a_number (same→eq y z t)
-tells→eq no_number z t = absurd t
+tells→eq : (r : Option ℤ) (z : ℤ) → T (tells r z) → r ≡ Some z
+tells→eq (Some y) z t = ap Some (same→eq y z t)
+tells→eq None z t = absurd t
 
 pub signed_back : SignedBack
 unfolding signed_in signed_of below_zero is_up_to is_decimal all_digits is_digit value_from decimal_in pick

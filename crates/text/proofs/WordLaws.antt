@@ -1,13 +1,10 @@
 -- Laws of texts that are the same, and of words. Assumes nothing.
 use Prim.Native.Nat.{ℕ, suc, ◌+◌, ◌-◌, ◌≤◌, ◌<◌}
-use native.Mathlib.Numerals.{add-one}
-use mathlib.Core.Bool.{Bool, true, false, ◌&&◌, false≢true, and-false}
-use mathlib.Core.List.{List, [], ◌∷◌}
+use mathlib.Core.Bool.{Bool, true, false}
+use mathlib.Core.List.{List}
 use mathlib.Core.Path.{◌≡◌, refl, sym, ap, ◌∙◌}
-use lib.Dec.{eqb}
-use lib.ListN.{length, get_or, take, drop, drop_of_length-le}
-use lib.Seq.{drop-cons}
-use borrow.Author.Tests.{eq-eqb, ne_eqb, eqb-true}
+use lib.ListN.{length, take, drop, drop_of_length-le}
+use Rattle.std.proofs.lemmas.Slice.Eq.{bytes_eq-Decides}
 use Rattle.laws.specs.Pick.{pick}
 use Rattle.laws.proofs.Picked.{on_true, on_false}
 use Rattle.text.specs.Letters.{space}
@@ -17,42 +14,11 @@ use Rattle.text.specs.ReadBack.{WordsBack}
 use Rattle.text.proofs.FieldLaws.{ended_at}
 
 -- ---- the same text
--- a turn of the comparison
-module _ (a b : List ℕ) (i : ℕ) where
-  pub same_on : i < length a → i < length b → get_or a i 0 ≡ get_or b i 0 → same_text (drop i a) (drop i b) ≡ same_text (drop (i + 1) a) (drop (i + 1) b)
-  unfolding same_text
-  same_on h k e = rw (drop-cons a i 0, drop-cons b i 0, eq-eqb _ _ e, add-one i)
-
-  pub same_off : i < length a → i < length b → (get_or a i 0 ≡ get_or b i 0 → ⊥) → same_text (drop i a) (drop i b) ≡ false
-  unfolding same_text
-  same_off h k n = rw (drop-cons a i 0, drop-cons b i 0, ne_eqb _ _ n)
-
-  pub same_end : length a ≤ i → length b ≤ i → same_text (drop i a) (drop i b) ≡ true
-  unfolding same_text
-  same_end h k = rw (drop_of_length-le a h, drop_of_length-le b k)
-
-pub same_length : (a b : List ℕ) → (length a ≡ length b → ⊥) → same_text a b ≡ false
-unfolding same_text
-same_length [] [] n = absurd (n refl)
-same_length [] (y ∷ ys) n = refl
-same_length (x ∷ xs) [] n = refl
-same_length (x ∷ xs) (y ∷ ys) n = rw (same_length xs ys (λ e. n (ap suc e))) (and-false (eqb x y))
-
 pub same_itself : (word : List ℕ) → same_text word word ≡ true
-unfolding same_text
-same_itself [] = refl
-same_itself (x ∷ xs) = rw (eq-eqb x x refl) (same_itself xs)
-
-same_both : (x y : ℕ) (xs ys : List ℕ) (rest : Bool) (t : Bool) → eqb x y ≡ t → (rest ≡ true → xs ≡ ys) → (t && rest) ≡ true → x ∷ xs ≡ y ∷ ys
-same_both x y xs ys rest true first behind e = rw (eqb-true x y first, behind e)
-same_both x y xs ys rest false first behind e = absurd (false≢true e)
+same_itself word = (bytes_eq-Decides word word).1 refl
 
 pub same_is : (field word : List ℕ) → same_text field word ≡ true → field ≡ word
-unfolding same_text
-same_is [] [] e = refl
-same_is [] (y ∷ ys) e = absurd (false≢true e)
-same_is (x ∷ xs) [] e = absurd (false≢true e)
-same_is (x ∷ xs) (y ∷ ys) e = same_both x y xs ys (same_text xs ys) (eqb x y) refl (same_is xs ys) e
+same_is field word = (bytes_eq-Decides field word).0
 
 pub words_back : WordsBack
 words_back = (same_itself, same_is)

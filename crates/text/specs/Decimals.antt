@@ -1,11 +1,7 @@
 -- Document 01, "Refusal numbers": decimals without leading zeros, read up to a limit and written. Assumes nothing.
-use Rattle.std.specs.Prelude.{ℕ, zero, suc, ◌+◌, ◌*◌, ◌-◌, ◌/◌, ◌%◌, Bool, true, false, not, ◌&&◌, List, [], ◌∷◌, ◌++◌, eqb, ltb, leb}
+use Rattle.std.specs.Prelude.{ℕ, zero, suc, ◌+◌, ◌*◌, ◌-◌, ◌/◌, ◌%◌, Bool, true, false, not, ◌&&◌, List, [], ◌∷◌, ◌++◌, Option, Some, None, eqb, ltb, leb}
 use Rattle.laws.specs.Pick.{pick}
 use Rattle.text.specs.Letters.{letter}
-use Rattle.text.specs.declared.decimals.Number.{Number}
-use Rattle.text.specs.declared.decimals.Number.TheVariants.{Is as a_number, Bad as no_number}
-use Rattle.text.specs.declared.decimals.Byte.{Byte}
-use Rattle.text.specs.declared.decimals.Byte.TheVariants.{Is as a_byte, Bad as no_byte}
 
 -- ---- reading
 -- A digit is one of the letters 0 to 9.
@@ -37,12 +33,12 @@ unfoldable pub is_up_to : ℕ → List ℕ → Bool
 is_up_to most field = is_decimal field && leb (value_of field) most
 
 -- the number in a field, if it is a decimal up to `most`
-unfoldable pub number_in : ℕ → List ℕ → Number
-number_in most field = pick (is_up_to most field) (a_number (value_of field)) no_number
+unfoldable pub number_in : ℕ → List ℕ → Option ℕ
+number_in most field = pick (is_up_to most field) (Some (value_of field)) None
 
 -- the same for a byte
-unfoldable pub byte_in : ℕ → List ℕ → Byte
-byte_in most field = pick (is_up_to most field) (a_byte (value_of field)) no_byte
+abbrev pub byte_in : ℕ → List ℕ → Option ℕ
+byte_in most field = number_in most field
 
 -- ---- writing
 -- the digit of a number below ten

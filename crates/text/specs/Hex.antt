@@ -1,10 +1,8 @@
 -- Document 01, "The bench reader": lower-case hex, two digits for a byte, and numbers of a fixed width. Assumes nothing.
-use Rattle.std.specs.Prelude.{ℕ, zero, suc, ◌+◌, ◌*◌, ◌-◌, ◌/◌, ◌%◌, Bool, true, ◌&&◌, List, [], ◌∷◌, ◌++◌, eqb, ltb, leb, length}
+use Rattle.std.specs.Prelude.{ℕ, zero, suc, ◌+◌, ◌*◌, ◌-◌, ◌/◌, ◌%◌, Bool, true, ◌&&◌, List, [], ◌∷◌, ◌++◌, Option, Some, None, eqb, ltb, leb, length}
 use Rattle.laws.specs.Pick.{pick}
 use Rattle.text.specs.Letters.{letter}
 use Rattle.text.specs.Decimals.{is_digit}
-use Rattle.text.specs.declared.decimals.Number.{Number}
-use Rattle.text.specs.declared.decimals.Number.TheVariants.{Is as a_number, Bad as no_number}
 
 -- ---- a digit
 -- the value of a digit, 0 to 9 and a to f; 16 for any other byte
@@ -53,9 +51,9 @@ hex_value_from n [] = n
 hex_value_from n (digit ∷ digits) = hex_value_from (n * 16 + digit_value digit) digits
 
 -- the number in a field of exactly `width` hex digits, at most sixteen, since a number has 64 bits
-unfoldable pub hex_number_in : ℕ → List ℕ → Number
+unfoldable pub hex_number_in : ℕ → List ℕ → Option ℕ
 hex_number_in width field =
-    pick (leb width 16 && eqb (length field) width && all_hex field) (a_number (hex_value_from 0 field)) no_number
+    pick (leb width 16 && eqb (length field) width && all_hex field) (Some (hex_value_from 0 field)) None
 
 -- the last `width` hex digits of a number
 unfoldable pub hex_digits_of : ℕ → ℕ → List ℕ

@@ -1,13 +1,10 @@
 -- Document 01, "The bench reader": a reader reads back what a writer writes. Assumes nothing.
-use Rattle.std.specs.Prelude.{ℕ, ◌^◌, ◌≤◌, ◌<◌, true, false, List, [], ◌∷◌, ◌≡◌, eqb, pos, negsuc, length, get_or}
+use Rattle.std.specs.Prelude.{ℕ, ◌^◌, ◌≤◌, ◌<◌, true, false, List, [], ◌∷◌, Some, ◌≡◌, eqb, pos, negsuc, length, get_or}
 use Rattle.text.specs.Fields.{fields_at, joined_by}
 use Rattle.text.specs.Words.{same_text}
 use Rattle.text.specs.Decimals.{number_in, byte_in, decimal_of}
 use Rattle.text.specs.Signed.{signed_in, signed_of}
 use Rattle.text.specs.Hex.{is_hex, filled_by, hexes_of, hex_number_in, hex_digits_of}
-use Rattle.text.specs.declared.decimals.Number.TheVariants.{Is as a_number}
-use Rattle.text.specs.declared.decimals.Byte.TheVariants.{Is as a_byte}
-use Rattle.text.specs.declared.signed.Signed.TheVariants.{Is as a_signed}
 
 -- No byte of the text is the mark.
 abbrev pub Without : ℕ → List ℕ → Type 0
@@ -26,13 +23,13 @@ WordsBack = ((word : List ℕ) → same_text word word ≡ true) × ((field word
 -- A number of 32 bits is read back if it is not above the limit, as a number and as a byte.
 abbrev pub DecimalsBack : Type 0
 DecimalsBack =
-    (most n : ℕ) → n ≤ most → n < 2 ^ 32 → (number_in most (decimal_of n) ≡ a_number n) × (byte_in most (decimal_of n) ≡ a_byte n)
+    (most n : ℕ) → n ≤ most → n < 2 ^ 32 → (number_in most (decimal_of n) ≡ Some n) × (byte_in most (decimal_of n) ≡ Some n)
 
 -- Every number from -128 to 127 is read back.
 abbrev pub SignedBack : Type 0
 SignedBack =
-    ((n : ℕ) → n ≤ 127 → signed_in (signed_of (pos n)) ≡ a_signed (pos n))
-    × ((n : ℕ) → n ≤ 127 → signed_in (signed_of (negsuc n)) ≡ a_signed (negsuc n))
+    ((n : ℕ) → n ≤ 127 → signed_in (signed_of (pos n)) ≡ Some (pos n))
+    × ((n : ℕ) → n ≤ 127 → signed_in (signed_of (negsuc n)) ≡ Some (negsuc n))
 
 -- No number of the list is above 255.
 abbrev pub AllBytes : List ℕ → Type 0
@@ -46,4 +43,4 @@ HexBack =
 
 -- A number that its width has digits for is read back, up to a width of sixteen.
 abbrev pub HexNumbersBack : Type 0
-HexNumbersBack = (width number : ℕ) → width ≤ 16 → number < 16 ^ width → hex_number_in width (hex_digits_of width number) ≡ a_number number
+HexNumbersBack = (width number : ℕ) → width ≤ 16 → number < 16 ^ width → hex_number_in width (hex_digits_of width number) ≡ Some number

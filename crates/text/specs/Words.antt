@@ -1,15 +1,12 @@
 -- Document 01, "The bench reader": a field that is a word, or one of a list of words. Assumes nothing.
-use Rattle.std.specs.Prelude.{ℕ, suc, Bool, true, false, ◌&&◌, List, [], ◌∷◌, eqb}
+use Rattle.std.specs.Prelude.{ℕ, suc, Bool, List, [], ◌∷◌, bytes_eq}
 use Rattle.laws.specs.Pick.{pick}
 use Rattle.text.specs.Letters.{space}
 use Rattle.text.specs.Fields.{parted_at}
 
 -- The two texts are equal byte for byte.
-unfoldable pub same_text : List ℕ → List ℕ → Bool
-same_text [] [] = true
-same_text [] (other ∷ others) = false
-same_text (byte ∷ bytes) [] = false
-same_text (byte ∷ bytes) (other ∷ others) = eqb byte other && same_text bytes others
+abbrev pub same_text : List ℕ → List ℕ → Bool
+same_text field word = bytes_eq field word
 
 -- the words of a list, which has a space between each two; an empty text has no word
 abbrev pub words_of : List ℕ → List (List ℕ)

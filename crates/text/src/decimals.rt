@@ -6,19 +6,6 @@ ghost use Rattle.text.specs.Code.{Put, digits};
 
 use crate::writing;
 
-// What a field says in decimal or in hex: a number, or nothing of that form.
-#[derive(Clone, Copy)]
-pub enum Number {
-    Is(u64),
-    Bad,
-}
-
-#[derive(Clone, Copy)]
-pub enum Byte {
-    Is(u8),
-    Bad,
-}
-
 pub(crate) fn is_digit(byte: u8) -> bool
     ensures { result ≡ is_digit byte }
 {
@@ -42,11 +29,11 @@ fn well_begun(field: &[u8]) -> bool
 }
 
 // Reads a decimal up to `most`. The field may have any number of digits, and nothing overflows.
-pub fn read_number(field: &[u8], most: u32) -> Number
+pub fn read_number(field: &[u8], most: u32) -> Option<u64>
     ensures { result ≡ number_in most field.now }
 {
     if !well_begun(field) {
-        return Number::Bad;
+        return None;
     }
     let limit = most as u64;
     let mut number: u64 = 0;
@@ -54,25 +41,23 @@ pub fn read_number(field: &[u8], most: u32) -> Number
     while i < field.len() {
         let byte = field[i];
         if !is_digit(byte) {
-            return Number::Bad;
+            return None;
         }
         number = number * 10 + (byte - b'0') as u64;
         if limit < number {
-            return Number::Bad;
+            return None;
         }
         i += 1;
     }
-    Number::Is(number)
+    Some(number)
 }
 
 // Reads a decimal up to `most` into a byte.
-pub fn read_byte(field: &[u8], most: u8) -> Byte
+pub fn read_byte(field: &[u8], most: u8) -> Option<u8>
     ensures { result ≡ byte_in most field.now }
 {
-    let Number::Is(number) = read_number(field, most as u32) else {
-        return Byte::Bad;
-    };
-    Byte::Is(number as u8)
+    let number = read_number(field, most as u32)?;
+    Some(number as u8)
 }
 
 // How many decimal digits a number has.

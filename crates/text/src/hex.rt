@@ -3,7 +3,6 @@ ghost use Rattle.std.specs.Prelude.{true, ◌≡◌, ◌*◌, ◌<◌, length};
 ghost use Rattle.text.specs.Hex.{digit_value, hex_digit, all_hex, bytes_of, is_hex, filled_by, hexes_of, hex_number_in, hex_digits_of};
 ghost use Rattle.text.specs.Writing.{place_past, buffer_with};
 
-use crate::decimals::Number;
 use crate::{decimals, writing};
 
 // The value of a hex digit, and 16 for any other byte.
@@ -76,26 +75,26 @@ pub fn read_hex(field: &[u8], bytes: &mut [u8]) -> bool
 }
 
 // Reads a number of exactly `width` hex digits. No width above sixteen is read.
-pub fn read_hex_number(field: &[u8], width: usize) -> Number
+pub fn read_hex_number(field: &[u8], width: usize) -> Option<u64>
     ensures { result ≡ hex_number_in width field.now }
 {
     if 16 < width {
-        return Number::Bad;
+        return None;
     }
     if field.len() != width {
-        return Number::Bad;
+        return None;
     }
     let mut number: u64 = 0;
     let mut i = 0;
     while i < width {
         let digit = digit_value(field[i]);
         if 15 < digit {
-            return Number::Bad;
+            return None;
         }
         number = number * 16 + digit as u64;
         i += 1;
     }
-    Number::Is(number)
+    Some(number)
 }
 
 fn hex_digit(value: u8) -> u8

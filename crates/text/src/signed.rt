@@ -4,41 +4,30 @@ ghost use Rattle.text.specs.Signed.{below_zero, signed_in, signed_of};
 ghost use Rattle.text.specs.Writing.{place_past, buffer_with};
 ghost use Rattle.text.specs.Code.{minus_and};
 
-use crate::decimals::Byte;
 use crate::{decimals, writing};
 
-#[derive(Clone, Copy)]
-pub enum Signed {
-    Is(i8),
-    Bad,
-}
-
-pub fn read_signed(field: &[u8]) -> Signed
+pub fn read_signed(field: &[u8]) -> Option<i8>
     ensures { result ≡ signed_in field.now }
 {
     if field.len() == 0 {
-        return Signed::Bad;
+        return None;
     }
     if field[0] == b'-' {
         return negative(&field[1..]);
     }
-    let Byte::Is(number) = decimals::read_byte(field, 127) else {
-        return Signed::Bad;
-    };
-    Signed::Is(number as i8)
+    let number = decimals::read_byte(field, 127)?;
+    Some(number as i8)
 }
 
 // Reads the digits behind a minus.
-fn negative(digits: &[u8]) -> Signed
+fn negative(digits: &[u8]) -> Option<i8>
     ensures { result ≡ below_zero digits.now }
 {
-    let Byte::Is(number) = decimals::read_byte(digits, 128) else {
-        return Signed::Bad;
-    };
+    let number = decimals::read_byte(digits, 128)?;
     if number == 0 {
-        return Signed::Bad;
+        return None;
     }
-    Signed::Is(minus(number))
+    Some(minus(number))
 }
 
 fn minus(number: u8) -> i8

@@ -7,17 +7,7 @@ use crate::fields;
 pub fn is(field: &[u8], word: &[u8]) -> bool
     ensures { result ≡ same_text field.now word.now }
 {
-    if field.len() != word.len() {
-        return false;
-    }
-    let mut i = 0;
-    while i < field.len() {
-        if field[i] != word[i] {
-            return false;
-        }
-        i += 1;
-    }
-    true
+    field == word
 }
 
 // The place of the field among the words, counted from 0. If it is none of them, the answer is the number of words. A space stands between each two.
