@@ -6,8 +6,8 @@ ghost use Rattle.std.specs.Prelude.{◌≡◌};
 ghost use Rattle.event.specs.Constants.{public_constants};
 ghost use Rattle.event.specs.Event.{event_of, new_event};
 
-use search::Found;
 pub use window::DALI_RX_SAMPLE_BUF_LEN;
+use window::PhaseDecode;
 
 pub const PHY_TICK_US: u32 = 104;
 
@@ -35,7 +35,7 @@ struct PublicConstants {
 #[derive(Clone, Copy)]
 pub enum IsrDecode {
     NotDecoded,
-    Decoded(Found),
+    Decoded(Option<PhaseDecode>),
 }
 
 #[derive(Clone, Copy)]
@@ -54,6 +54,7 @@ pub struct RxCompletedEvent {
 impl RxCompletedEvent {
     pub const MAX_SAMPLES: usize = DALI_RX_SAMPLE_BUF_LEN;
 
+    #[tactic(auto, unfolding(crate::specs::Event::new_event))]
     pub fn new() -> RxCompletedEvent
         ensures { result ≡ new_event }
     {
@@ -61,6 +62,7 @@ impl RxCompletedEvent {
     }
 
     // The machine sets no other field, so the others are those of a fresh event.
+    #[tactic(auto, unfolding(crate::specs::Event::event_of))]
     pub fn of_capture(
         samples: [u8; DALI_RX_SAMPLE_BUF_LEN],
         sample_count: u16,

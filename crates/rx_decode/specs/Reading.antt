@@ -1,12 +1,11 @@
 -- Document 01, "Reading": the readings of an event. Assumes nothing.
-use Rattle.std.specs.Prelude.{ℕ, suc, ◌+◌, ◌-◌, ◌*◌, ◌/◌, ◌%◌, ◌^◌, max, min, Bool, List, [], ◌∷◌, eqb, leb, pos}
+use Rattle.std.specs.Prelude.{ℕ, suc, ◌+◌, ◌-◌, ◌*◌, ◌/◌, ◌%◌, ◌^◌, max, min, Bool, List, [], ◌∷◌, eqb, leb, pos, Option, Some, None}
 use Rattle.laws.specs.Pick.{pick}
 use Rattle.laws.specs.Tabulate.{tabulate}
 use Rattle.lengths.specs.declared.BitLengths.{BitLengths}
 use Rattle.lengths.specs.Lengths.{sniffed_lengths}
 use Rattle.window.specs.Window.{window_of, level_of}
-use Rattle.search.specs.declared.Found.{Found}
-use Rattle.search.specs.declared.Found.TheVariants.{Decode, Nothing}
+use Rattle.window.specs.declared.PhaseDecode.{PhaseDecode}
 use Rattle.search.specs.Search.{new_of, run_of}
 use Rattle.event.specs.declared.IsrDecode.{IsrDecode}
 use Rattle.event.specs.declared.IsrDecode.TheVariants.{NotDecoded, Decoded}
@@ -14,8 +13,6 @@ use Rattle.event.specs.declared.RxCompletedEvent.{RxCompletedEvent}
 use Rattle.rx_decode.specs.declared.SniffedFrame.{SniffedFrame}
 use Rattle.rx_decode.specs.declared.SniffedFrame.TheVariants.{Forward16, Backward8, Forward24, UnsupportedLength, DecodeFailed}
 use Rattle.rx_decode.specs.declared.SniffedDecode.{SniffedDecode}
-use Rattle.rx_decode.specs.declared.BackwardByte.{BackwardByte}
-use Rattle.rx_decode.specs.declared.BackwardByte.TheVariants.{Byte, NoByte}
 
 -- ---- the kind of a decode
 -- byte i of a decode's data, which is one number with the first byte on top
@@ -31,29 +28,29 @@ frame_of len bytes =
     (UnsupportedLength len)))
 
 -- The result holds the frame kind beside phase and score. If there is no decode, the kind is DecodeFailed, and both numbers are 0.
-unfoldable pub sniffed_of : Found → SniffedDecode
-sniffed_of Nothing = record { frame = DecodeFailed; phase_ticks = pos 0; score = 0 }
-sniffed_of (Decode d) = record { frame = frame_of d.bit_len d.«data»; phase_ticks = d.phase_ticks; score = d.score }
+unfoldable pub sniffed_of : Option PhaseDecode → SniffedDecode
+sniffed_of None = record { frame = DecodeFailed; phase_ticks = pos 0; score = 0 }
+sniffed_of (Some d) = record { frame = frame_of d.bit_len d.«data»; phase_ticks = d.phase_ticks; score = d.score }
 
 -- ---- where the decode comes from
 -- what a new search finds in the event's capture
-unfoldable pub searched_in : BitLengths → RxCompletedEvent → Found
+unfoldable pub searched_in : BitLengths → RxCompletedEvent → Option PhaseDecode
 searched_in preferred ev = (run_of (new_of preferred) (window_of ev.samples ev.sample_count)).found
 
 -- If the event holds a finished search, the reading takes what that found, even if it found nothing. If not, it searches with 8, 16 and 24 preferred.
-unfoldable pub found_or : IsrDecode → RxCompletedEvent → Found
+unfoldable pub found_or : IsrDecode → RxCompletedEvent → Option PhaseDecode
 found_or (Decoded found) ev = found
 found_or NotDecoded ev = searched_in sniffed_lengths ev
 
 -- the decode that the sniffed reading takes, if there is one
-abbrev pub found_in : RxCompletedEvent → Found
+abbrev pub found_in : RxCompletedEvent → Option PhaseDecode
 found_in ev = found_or ev.isr_decode ev
 
 -- ---- the backward byte
 -- A decode of 8 bits gives its byte. Any other length gives none.
-unfoldable pub byte_in : Found → BackwardByte
-byte_in Nothing = NoByte
-byte_in (Decode d) = pick (eqb d.bit_len 8) (Byte (byte_of d.«data» 0)) NoByte
+unfoldable pub byte_in : Option PhaseDecode → Option ℕ
+byte_in None = None
+byte_in (Some d) = pick (eqb d.bit_len 8) (Some (byte_of d.«data» 0)) None
 
 -- ---- the longest low run
 -- the levels of a capture's ticks, over as many bytes as it counts, 64 at most

@@ -9,8 +9,8 @@ ghost use Rattle.lengths.specs.Lengths.{backward_lengths};
 
 use event::{IsrDecode, LINE_HELD_TICKS, RxCompletedEvent};
 use lengths::{BACKWARD_FRAME_BIT_LENGTHS, BitLengths, SNIFFED_BIT_LENGTHS};
-use search::{BestPhaseSearch, Found};
-use window::SampleWindow;
+use search::BestPhaseSearch;
+use window::{PhaseDecode, SampleWindow};
 
 #[derive(Clone, Copy)]
 pub enum SniffedFrame {
@@ -28,70 +28,61 @@ pub struct SniffedDecode {
     pub score: u16,
 }
 
-// The Rust's Option<u8>.
-#[derive(Clone, Copy)]
-pub enum BackwardByte {
-    Byte(u8),
-    NoByte,
-}
-
-fn try_decode(ev: RxCompletedEvent, preferred: BitLengths) -> Found
+#[tactic(auto, unfolding(crate::specs::Reading::searched_in))]
+fn try_decode(ev: RxCompletedEvent, preferred: BitLengths) -> Option<PhaseDecode>
     ensures { result ≡ searched_in preferred ev }
 {
     let window = SampleWindow::of_capture(&ev.samples, ev.sample_count);
-    let answer = BestPhaseSearch::new(preferred).run(window);
-    answer.found
+    BestPhaseSearch::new(preferred).run(window).found
 }
 
 #[tactic(auto, using(crate::proofs::Telling::tells_byte, lengths::proofs::Masks::backward_mask), unfolding(crate::specs::Reading::byte_in, laws::specs::Pick::pick))]
-pub fn decode_backward_byte(ev: RxCompletedEvent) -> BackwardByte
+pub fn decode_backward_byte(ev: RxCompletedEvent) -> Option<u8>
     ensures value { result ≡ byte_in (searched_in backward_lengths ev) }
     ensures says_byte { SaysByte result (searched_in backward_lengths ev) }
 {
-    let found = try_decode(ev, BACKWARD_FRAME_BIT_LENGTHS);
-    let Found::Decode(result) = found else {
-        return BackwardByte::NoByte;
+    let Some(result) = try_decode(ev, BACKWARD_FRAME_BIT_LENGTHS) else {
+        return None;
     };
     if result.bit_len == 8 {
-        return BackwardByte::Byte(byte_of(result.data, 0));
+        Some(byte_of(result.data, 0))
+    } else {
+        None
     }
-    BackwardByte::NoByte
 }
 
 pub fn decode_sniffed(ev: RxCompletedEvent) -> SniffedFrame
     ensures value { result ≡ (sniffed_of (found_in ev)).frame }
     ensures says_frame { SaysFrame result (found_in ev) }
 {
-    let decode = decode_sniffed_with_phase(ev);
-    decode.frame
+    decode_sniffed_with_phase(ev).frame
 }
 
+#[tactic(auto, using(crate::proofs::Telling::tells_failed, crate::proofs::Telling::tells_frame), unfolding(crate::specs::Reading::sniffed_of))]
 pub fn decode_sniffed_with_phase(ev: RxCompletedEvent) -> SniffedDecode
     ensures value { result ≡ sniffed_of (found_in ev) }
     ensures says_frame { SaysFrame result.frame (found_in ev) }
 {
-    let found = found_in(ev);
-    let Found::Decode(result) = found else {
+    let Some(result) = found_in(ev) else {
         return SniffedDecode {
             frame: SniffedFrame::DecodeFailed,
             phase_ticks: 0,
             score: 0,
         };
     };
-    let frame = sniffed_from_decoded(result.bit_len, result.data);
     SniffedDecode {
-        frame,
+        frame: sniffed_from_decoded(result.bit_len, result.data),
         phase_ticks: result.phase_ticks,
         score: result.score,
     }
 }
 
 // The event's own finished search counts. Only if the event holds none does the reading search.
-fn found_in(ev: RxCompletedEvent) -> Found
+#[tactic(auto, using(lengths::proofs::Masks::sniffed_mask), unfolding(crate::specs::Reading::found_or))]
+fn found_in(ev: RxCompletedEvent) -> Option<PhaseDecode>
     ensures { result ≡ found_in ev }
 {
-    let isr_decode = ev.isr_decode;
-    match isr_decode {
+    match ev.isr_decode {
         IsrDecode::Decoded(found) => found,
         IsrDecode::NotDecoded => try_decode(ev, SNIFFED_BIT_LENGTHS),
     }

@@ -13,7 +13,7 @@ use Rattle.laws.specs.Pick.{pick}
 use Rattle.laws.proofs.Picked.{on_true, on_false}
 use Rattle.window.specs.declared.SampleWindow.{SampleWindow}
 use Rattle.window.specs.Phase.{phase_of}
-use Rattle.search.specs.declared.Found.TheVariants.{Nothing}
+use Rattle.std.specs.Prelude.{None}
 use Rattle.search.specs.declared.BestPhaseSearch.{BestPhaseSearch}
 use Rattle.search.specs.Search.{is_preferred, search_with, new_of, first_of, ended_of, step_of}
 use Rattle.search.specs.Steps.{after_steps, StepsAreCounted, ScanGoesOn, FifthIsDone, LaterStepsRepeat, FirstIsNotKept}
@@ -76,6 +76,6 @@ pub first_is_not_kept : FirstIsNotKept
 unfolding step_of first_of pick
 first_is_not_kept m w = go (is_preferred m (phase_of w 32 (pos 0)))
   where
-    go : (t : Bool) → (first_by m Nothing w t).search ≡ search_with m 1 Nothing
+    go : (t : Bool) → (first_by m None w t).search ≡ search_with m 1 None
     go true = refl
     go false = refl

@@ -11,8 +11,7 @@ use Rattle.lengths.specs.declared.BitLengths.{BitLengths}
 use Rattle.window.specs.declared.SampleWindow.{SampleWindow}
 use Rattle.window.specs.declared.PhaseDecode.{PhaseDecode}
 use Rattle.window.specs.Phase.{PhaseBits, failed, weighed, bits_of, decode_of, phase_of}
-use Rattle.search.specs.declared.Found.{Found}
-use Rattle.search.specs.declared.Found.TheVariants.{Decode, Nothing}
+use Rattle.std.specs.Prelude.{Option, Some, None}
 use Rattle.search.specs.declared.BestPhaseSearch.{BestPhaseSearch}
 use Rattle.search.specs.declared.Stepped.{Stepped}
 use Rattle.search.specs.Search.{is_preferred, kept_better, better_of, new_of, first_of, ended_of, scanned_of, scan_phases, scan_phase, step_of}
@@ -44,22 +43,22 @@ scanned (suc (suc (suc (suc k)))) = Memᴰ.tail (Memᴰ.tail (Memᴰ.tail (Mem�
 
 -- ---- what holds of every decode that is read holds of the one that is kept
 module _ (P : PhaseDecode → Type 0) where
-  abbrev Kept : Found → Type 0
-  Kept found = (d : PhaseDecode) → found ≡ Decode d → P d
+  abbrev Kept : Option PhaseDecode → Type 0
+  Kept found = (d : PhaseDecode) → found ≡ Some d → P d
 
   abbrev Scanned : SampleWindow → Type 0
   Scanned w = (phase : ℤ) → Memᴰ phase scan_phases → P (phase_of w 32 phase)
 
-  just : (d : PhaseDecode) → P d → Kept (Decode d)
+  just : (d : PhaseDecode) → P d → Kept (Some d)
   just d p e h = subst P (same_decode d e h) p
 
-  nothing : Kept Nothing
+  nothing : Kept None
   nothing d e = none_such d e
 
-  of_kept : (m : BitLengths) (best : Found) (d : PhaseDecode) → Kept best → P d → Kept (kept_better best d m)
+  of_kept : (m : BitLengths) (best : Option PhaseDecode) (d : PhaseDecode) → Kept best → P d → Kept (kept_better best d m)
   unfolding kept_better
-  of_kept m Nothing d k p = cases Kept (eqb d.bit_len 0) (λ e. k) (λ e. just d p)
-  of_kept m (Decode b) d k p = cases Kept (eqb d.bit_len 0) (λ e. k) (λ e. cases Kept (better_of d b m) (λ e. just d p) (λ e. k))
+  of_kept m None d k p = cases Kept (eqb d.bit_len 0) (λ e. k) (λ e. just d p)
+  of_kept m (Some b) d k p = cases Kept (eqb d.bit_len 0) (λ e. k) (λ e. cases Kept (better_of d b m) (λ e. just d p) (λ e. k))
 
   of_step : (s : BestPhaseSearch) (w : SampleWindow) → Kept s.best → Scanned w → Kept (step_of s w).search.best
   unfolding step_of first_of ended_of scanned_of
@@ -74,7 +73,7 @@ module _ (P : PhaseDecode → Type 0) where
   of_steps s [] k all = k
   of_steps s (w ∷ ws) k all = of_steps (step_of s w).search ws (of_step s w k (all w (Memᴰ.head refl))) (λ v h. all v (Memᴰ.tail h))
 
-  of_phases : (m : BitLengths) (w : SampleWindow) (best : Found) (phases : List ℤ) → Kept best → ((phase : ℤ) → Memᴰ phase phases → P (phase_of w 32 phase)) → Kept (best_of m w best phases)
+  of_phases : (m : BitLengths) (w : SampleWindow) (best : Option PhaseDecode) (phases : List ℤ) → Kept best → ((phase : ℤ) → Memᴰ phase phases → P (phase_of w 32 phase)) → Kept (best_of m w best phases)
   unfolding best_of
   of_phases m w best [] k all = k
   of_phases m w best (phase ∷ phases) k all = of_phases m w (kept_better best (phase_of w 32 phase) m) phases (of_kept m best _ k (all phase (Memᴰ.head refl))) (λ p h. all p (Memᴰ.tail h))

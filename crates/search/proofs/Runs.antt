@@ -9,9 +9,9 @@ use borrow.Author.Tests.{ne_eqb}
 use Rattle.laws.specs.Pick.{pick}
 use Rattle.lengths.specs.declared.BitLengths.{BitLengths}
 use Rattle.window.specs.declared.SampleWindow.{SampleWindow}
+use Rattle.window.specs.declared.PhaseDecode.{PhaseDecode}
 use Rattle.window.specs.Phase.{phase_of}
-use Rattle.search.specs.declared.Found.{Found}
-use Rattle.search.specs.declared.Found.TheVariants.{Decode, Nothing}
+use Rattle.std.specs.Prelude.{Option, Some, None}
 use Rattle.search.specs.declared.SearchAnswer.{SearchAnswer}
 use Rattle.search.specs.declared.PhaseSearch.TheVariants.{Searching, Done}
 use Rattle.search.specs.declared.BestPhaseSearch.{BestPhaseSearch}
@@ -30,13 +30,13 @@ past : (s : BestPhaseSearch) (w : SampleWindow) → 4 < s.step → first_done 5 
 unfolding first_done ended_of ends_with best_of pick
 past s w h = rw (ended_step s w h, ne_eqb s.step 0 (omega arith), drop_of_length-le scan_phases {i = s.step - 1} (omega arith))
 
-module _ (m : BitLengths) (best : Found) (w : SampleWindow) where
+module _ (m : BitLengths) (best : Option PhaseDecode) (w : SampleWindow) where
   five : (k : ℕ) → first_done 5 (search_with m k best) w ≡ Done (whole_of (search_with m k best) w)
   unfolding first_done step_of first_of scanned_of ended_of scan_phase ends_with best_of pick
   five zero = go (is_preferred m (phase_of w 32 (pos 0)))
     where
       go : (t : Bool) → or_later (first_by m best w t).answer (first_done 4 (first_by m best w t).search w)
-          ≡ Done (record { found = accepted_of (pick t (Decode (phase_of w 32 (pos 0))) (best_of m w best scan_phases)); steps = pick t 1 5 })
+          ≡ Done (record { found = accepted_of (pick t (Some (phase_of w 32 (pos 0))) (best_of m w best scan_phases)); steps = pick t 1 5 })
       go true = refl
       go false = refl
   five (suc zero) = refl
@@ -56,8 +56,8 @@ pub run_of_new : RunOfNew
 unfolding search_of ends_with pick
 run_of_new m w = run_whole (new_of m) w ∙ go (is_preferred m (phase_of w 32 (pos 0)))
   where
-    go : (t : Bool) → ◌≡◌ {A = SearchAnswer} (record { found = accepted_of (pick t (Decode (phase_of w 32 (pos 0))) (best_of m w Nothing scan_phases)); steps = pick t 1 5 })
-        (pick t (record { found = accepted_of (Decode (phase_of w 32 (pos 0))); steps = 1 }) (record { found = accepted_of (best_of m w Nothing scan_phases); steps = 5 }))
+    go : (t : Bool) → ◌≡◌ {A = SearchAnswer} (record { found = accepted_of (pick t (Some (phase_of w 32 (pos 0))) (best_of m w None scan_phases)); steps = pick t 1 5 })
+        (pick t (record { found = accepted_of (Some (phase_of w 32 (pos 0))); steps = 1 }) (record { found = accepted_of (best_of m w None scan_phases); steps = 5 }))
     go true = refl
     go false = refl
 
@@ -66,12 +66,12 @@ past_one : (s : BestPhaseSearch) (w : SampleWindow) → 4 < s.step → Done (who
 unfolding ended_of ends_with best_of pick
 past_one s w h = rw (ended_step s w h, ne_eqb s.step 0 (omega arith), drop_of_length-le scan_phases {i = s.step - 1} (omega arith))
 
-module _ (m : BitLengths) (best : Found) (w : SampleWindow) where
+module _ (m : BitLengths) (best : Option PhaseDecode) (w : SampleWindow) where
   one : (k : ℕ) → let s = search_with m k best in Done (whole_of s w) ≡ or_later (step_of s w).answer (Done (whole_of (step_of s w).search w))
   unfolding step_of first_of scanned_of ended_of scan_phase ends_with best_of pick
   one zero = go (is_preferred m (phase_of w 32 (pos 0)))
     where
-      go : (t : Bool) → Done (record { found = accepted_of (pick t (Decode (phase_of w 32 (pos 0))) (best_of m w best scan_phases)); steps = pick t 1 5 })
+      go : (t : Bool) → Done (record { found = accepted_of (pick t (Some (phase_of w 32 (pos 0))) (best_of m w best scan_phases)); steps = pick t 1 5 })
           ≡ or_later (first_by m best w t).answer (Done (whole_of (first_by m best w t).search w))
       go true = refl
       go false = refl

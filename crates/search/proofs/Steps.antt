@@ -15,8 +15,7 @@ use Rattle.lengths.specs.declared.BitLengths.{BitLengths}
 use Rattle.window.specs.declared.SampleWindow.{SampleWindow}
 use Rattle.window.specs.declared.PhaseDecode.{PhaseDecode}
 use Rattle.window.specs.Phase.{phase_of}
-use Rattle.search.specs.declared.Found.{Found}
-use Rattle.search.specs.declared.Found.TheVariants.{Decode}
+use Rattle.std.specs.Prelude.{Option, Some}
 use Rattle.search.specs.declared.SearchAnswer.{SearchAnswer}
 use Rattle.search.specs.declared.PhaseSearch.TheVariants.{Searching, Done}
 use Rattle.search.specs.declared.BestPhaseSearch.{BestPhaseSearch}
@@ -50,8 +49,8 @@ unfolding step_of
 ended_step s w h = rw (on_false (ne_eqb s.step 0 (omega arith)), on_true (lt-ltb 4 s.step h))
 
 -- the first step of a search, by whether its length is preferred
-abbrev pub first_by : BitLengths → Found → SampleWindow → Bool → Stepped
-first_by m best w t = pick t (stepped (search_with m 1 best) (done (Decode (phase_of w 32 (pos 0))) 1)) (stepped (search_with m 1 best) Searching)
+abbrev pub first_by : BitLengths → Option PhaseDecode → SampleWindow → Bool → Stepped
+first_by m best w t = pick t (stepped (search_with m 1 best) (done (Some (phase_of w 32 (pos 0))) 1)) (stepped (search_with m 1 best) Searching)
 
 -- ---- what the step after n steps leaves and answers
 pub clash : {P : Type 0} (a : SearchAnswer) → Done a ≡ Searching → P
@@ -67,7 +66,7 @@ pub record Took (n : ℕ) (r : Stepped) : Type 0 where
   pub last : 4 ≤ n → (a : SearchAnswer) × (r.answer ≡ Done a)
   pub more : r.answer ≡ Searching → n < 4
 
-done_took : (n : ℕ) (s : BestPhaseSearch) (f : Found) (k : ℕ) → s.step ≡ min (n + 1) 5 → k ≡ min (n + 1) 5 → (1 ≤ n → 4 ≤ n) → Took n (stepped s (done f k))
+done_took : (n : ℕ) (s : BestPhaseSearch) (f : Option PhaseDecode) (k : ℕ) → s.step ≡ min (n + 1) 5 → k ≡ min (n + 1) 5 → (1 ≤ n → 4 ≤ n) → Took n (stepped s (done f k))
 done_took n s f k e d over = record {
   next = e;
   count = λ a h. sym (ap (λ (x : SearchAnswer). x.steps) (same_answer _ a h)) ∙ d;
@@ -92,8 +91,8 @@ first_took s d e = go (is_preferred s.preferred d)
     next : BestPhaseSearch
     next = search_with s.preferred 1 s.best
 
-    go : (t : Bool) → Took s.step (pick t (stepped next (done (Decode d) 1)) (stepped next Searching))
-    go true = done_took s.step next (Decode d) 1 (omega arith) (omega arith) (λ h. omega arith)
+    go : (t : Bool) → Took s.step (pick t (stepped next (done (Some d) 1)) (stepped next Searching))
+    go true = done_took s.step next (Some d) 1 (omega arith) (omega arith) (λ h. omega arith)
     go false = searching_took s.step next (omega arith) (omega arith)
 
 scan_took : (s : BestPhaseSearch) (d : PhaseDecode) → s.step ≤ 4 → Took s.step (scanned_of s d)

@@ -12,8 +12,7 @@ use Rattle.lengths.specs.declared.BitLengths.{BitLengths}
 use Rattle.window.specs.declared.SampleWindow.{SampleWindow}
 use Rattle.window.specs.declared.PhaseDecode.{PhaseDecode}
 use Rattle.window.specs.Phase.{phase_of}
-use Rattle.search.specs.declared.Found.{Found}
-use Rattle.search.specs.declared.Found.TheVariants.{Decode, Nothing}
+use Rattle.std.specs.Prelude.{Option, Some, None}
 use Rattle.search.specs.declared.SearchAnswer.{SearchAnswer}
 use Rattle.search.specs.declared.PhaseSearch.TheVariants.{Done}
 use Rattle.search.specs.declared.BestPhaseSearch.{BestPhaseSearch}
@@ -23,18 +22,18 @@ use Rattle.search.specs.Answers.{ends_with, best_of, SaysFound, SaysAnswer, Says
 use Rattle.search.proofs.Steps.{first_by, ended_step}
 use Rattle.search.proofs.Runs.{whole_of, five_suffice, run_whole}
 
-pub same_decode : (d e : PhaseDecode) → Decode d ≡ Decode e → d ≡ e
+pub same_decode : (d e : PhaseDecode) → Some d ≡ Some e → d ≡ e
 same_decode d e h = cc
 
-pub none_such : {P : Type 0} (d : PhaseDecode) → Nothing ≡ Decode d → P
+pub none_such : {P : Type 0} (d : PhaseDecode) → None ≡ Some d → P
 none_such d e = let z : ◌≡◌ {A = ℕ} 0 1 = cc in absurd (omega arith)
 
 -- ---- what is handed out of what the search ended with
-pub says_found : (ended : Found) → SaysFound (accepted_of ended) ended
+pub says_found : (ended : Option PhaseDecode) → SaysFound (accepted_of ended) ended
 unfolding SaysFound accepted_of
-says_found Nothing = λ d e. none_such d e
-says_found (Decode d) =
-    cases (λ r. SaysFound r (Decode d)) _
+says_found None = λ d e. none_such d e
+says_found (Some d) =
+    cases (λ r. SaysFound r (Some d)) _
     (λ few. λ e h. rw (← same_decode d e h) (ltb-true _ _ few))
     (λ enough. (refl, ltb-false _ _ enough))
 
@@ -53,10 +52,10 @@ past s w h =
       },
     )
 
-module _ (m : BitLengths) (best : Found) (w : SampleWindow) where
+module _ (m : BitLengths) (best : Option PhaseDecode) (w : SampleWindow) where
   at_first : (t : Bool) → is_preferred m (phase_of w 32 (pos 0)) ≡ t → SaysStep (first_by m best w t).answer (search_with m 0 best) w
   unfolding SaysStep ends_with pick
-  at_first true e = (rw e, record { found_is = rw e (says_found (Decode (phase_of w 32 (pos 0)))); steps_are = rw e })
+  at_first true e = (rw e, record { found_is = rw e (says_found (Some (phase_of w 32 (pos 0)))); steps_are = rw e })
   at_first false e = rw e
 
   by_step : (k : ℕ) → let s = search_with m k best in SaysStep (step_of s w).answer s w

@@ -1,5 +1,5 @@
 -- Document 01, "Search", with the scan order of "Weights and phases": which decode a search keeps, its steps, and its run. Assumes nothing.
-use Rattle.std.specs.Prelude.{ℕ, zero, suc, ◌+◌, ◌-◌, Bool, List, [], ◌∷◌, ltb, eqb, ℤ, pos, negsuc, nat_abs, get_or}
+use Rattle.std.specs.Prelude.{ℕ, zero, suc, ◌+◌, ◌-◌, Bool, List, [], ◌∷◌, ltb, eqb, ℤ, pos, negsuc, nat_abs, get_or, Option, Some, None}
 use Rattle.std.specs.Bool.{beq}
 use Rattle.laws.specs.Pick.{pick}
 use Rattle.lengths.specs.declared.BitLengths.{BitLengths}
@@ -7,8 +7,6 @@ use Rattle.lengths.specs.Lengths.{holds}
 use Rattle.window.specs.declared.SampleWindow.{SampleWindow}
 use Rattle.window.specs.declared.PhaseDecode.{PhaseDecode}
 use Rattle.window.specs.Phase.{phase_of}
-use Rattle.search.specs.declared.Found.{Found}
-use Rattle.search.specs.declared.Found.TheVariants.{Decode, Nothing}
 use Rattle.search.specs.declared.SearchAnswer.{SearchAnswer}
 use Rattle.search.specs.declared.PhaseSearch.{PhaseSearch}
 use Rattle.search.specs.declared.PhaseSearch.TheVariants.{Searching, Done}
@@ -33,28 +31,28 @@ better_of candidate current preferred =
     pick (beq (is_preferred preferred candidate) (is_preferred preferred current)) (higher_of candidate current) (is_preferred preferred candidate)
 
 -- The search keeps a candidate if it has none yet or if the candidate is better. It never keeps one of length 0.
-unfoldable pub kept_better : Found → PhaseDecode → BitLengths → Found
-kept_better Nothing candidate preferred = pick (eqb candidate.bit_len 0) Nothing (Decode candidate)
-kept_better (Decode current) candidate preferred =
-    pick (eqb candidate.bit_len 0) (Decode current)
-    (pick (better_of candidate current preferred) (Decode candidate) (Decode current))
+unfoldable pub kept_better : Option PhaseDecode → PhaseDecode → BitLengths → Option PhaseDecode
+kept_better None candidate preferred = pick (eqb candidate.bit_len 0) None (Some candidate)
+kept_better (Some current) candidate preferred =
+    pick (eqb candidate.bit_len 0) (Some current)
+    (pick (better_of candidate current preferred) (Some candidate) (Some current))
 
 -- The search hands out no decode of fewer than three bits.
-unfoldable pub accepted_of : Found → Found
-accepted_of Nothing = Nothing
-accepted_of (Decode d) = pick (ltb d.bit_len 3) Nothing (Decode d)
+unfoldable pub accepted_of : Option PhaseDecode → Option PhaseDecode
+accepted_of None = None
+accepted_of (Some d) = pick (ltb d.bit_len 3) None (Some d)
 
 -- ---- one step
 -- a search by its fields: the preferred lengths, the steps taken (5 at most), and the best decode so far
-abbrev pub search_with : BitLengths → ℕ → Found → BestPhaseSearch
+abbrev pub search_with : BitLengths → ℕ → Option PhaseDecode → BestPhaseSearch
 search_with preferred step best = record { preferred = preferred; step = step; best = best }
 
 -- A new search has taken no step and kept no decode.
 abbrev pub new_of : BitLengths → BestPhaseSearch
-new_of preferred = search_with preferred 0 Nothing
+new_of preferred = search_with preferred 0 None
 
 -- Done, with the decode if it is long enough, and the number of steps
-abbrev pub done : Found → ℕ → PhaseSearch
+abbrev pub done : Option PhaseDecode → ℕ → PhaseSearch
 done found steps = Done (record { found = accepted_of found; steps = steps })
 
 -- a search beside its answer
@@ -65,7 +63,7 @@ stepped search answer = record { search = search; answer = answer }
 unfoldable pub first_of : BestPhaseSearch → PhaseDecode → Stepped
 first_of s d =
     let next = search_with s.preferred 1 s.best in
-    pick (is_preferred s.preferred d) (stepped next (done (Decode d) 1)) (stepped next Searching)
+    pick (is_preferred s.preferred d) (stepped next (done (Some d) 1)) (stepped next Searching)
 
 -- After the scan every step answers with the best decode and leaves the search as it is.
 unfoldable pub ended_of : BestPhaseSearch → Stepped
@@ -105,7 +103,7 @@ first_done (suc n) s w = or_later (step_of s w).answer (first_done n (step_of s 
 
 -- The answer that Done carries. Searching carries none, and `run` never hands out what stands for it.
 abbrev pub handed_out : PhaseSearch → SearchAnswer
-handed_out Searching = record { found = Nothing; steps = 0 }
+handed_out Searching = record { found = None; steps = 0 }
 handed_out (Done answer) = answer
 
 -- A run hands out the answer of the first step that says Done. Every search says Done within five steps: the promise of `run` says that too.

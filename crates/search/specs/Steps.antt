@@ -1,12 +1,11 @@
 -- Document 01, "Search", as statements: the search in one piece, the count of its steps, and the steps after Done. Assumes nothing.
-use Rattle.std.specs.Prelude.{◌≤◌, ◌≡◌, eqb, pos, length}
+use Rattle.std.specs.Prelude.{◌≤◌, ◌≡◌, eqb, pos, length, Some, None}
 use mathlib.Core.List.{List, [], ◌∷◌, Memᴰ}
 use Rattle.laws.specs.Pick.{pick}
 use Rattle.lengths.specs.declared.BitLengths.{BitLengths}
 use Rattle.window.specs.declared.SampleWindow.{SampleWindow}
 use Rattle.window.specs.declared.PhaseDecode.{PhaseDecode}
 use Rattle.window.specs.Phase.{phase_of}
-use Rattle.search.specs.declared.Found.TheVariants.{Decode, Nothing}
 use Rattle.search.specs.declared.SearchAnswer.{SearchAnswer}
 use Rattle.search.specs.declared.PhaseSearch.TheVariants.{Searching, Done}
 use Rattle.search.specs.declared.BestPhaseSearch.{BestPhaseSearch}
@@ -19,8 +18,8 @@ use Rattle.search.specs.Answers.{best_of}
 unfoldable pub search_of : BitLengths → SampleWindow → SearchAnswer
 search_of m w =
     pick (is_preferred m (phase_of w 32 (pos 0)))
-    (record { found = accepted_of (Decode (phase_of w 32 (pos 0))); steps = 1 })
-    (record { found = accepted_of (best_of m w Nothing scan_phases); steps = 5 })
+    (record { found = accepted_of (Some (phase_of w 32 (pos 0))); steps = 1 })
+    (record { found = accepted_of (best_of m w None scan_phases); steps = 5 })
 
 -- A run of a new search answers what the search in one piece answers.
 abbrev pub RunOfNew : Type 0
@@ -63,12 +62,12 @@ LaterStepsRepeat =
 
 -- The scan begins with no decode kept, whatever the first step answered.
 abbrev pub FirstIsNotKept : Type 0
-FirstIsNotKept = (m : BitLengths) (w : SampleWindow) → (step_of (new_of m) w).search ≡ search_with m 1 Nothing
+FirstIsNotKept = (m : BitLengths) (w : SampleWindow) → (step_of (new_of m) w).search ≡ search_with m 1 None
 
 -- A decode that the search hands out has three bits or more. It is what one of the windows reads at phase 0 or at a phase of the scan.
 -- (`List.Memᴰ x xs` says that x is in the list xs.)
 abbrev pub DecodesAreRead : Type 0
 DecodesAreRead =
     (m : BitLengths) (ws : List SampleWindow) (w : SampleWindow) (a : SearchAnswer) (d : PhaseDecode)
-    → (step_of (after_steps (new_of m) ws) w).answer ≡ Done a → a.found ≡ Decode d
+    → (step_of (after_steps (new_of m) ws) w).answer ≡ Done a → a.found ≡ Some d
     → (3 ≤ d.bit_len) × ((v : SampleWindow) × Memᴰ v (w ∷ ws) × Memᴰ d.phase_ticks (pos 0 ∷ scan_phases) × (d ≡ phase_of v 32 d.phase_ticks))

@@ -1,7 +1,7 @@
 // The search for the best phase, from source document 001 (manchester.rs).
 #![tactic(auto)]
 
-ghost use Rattle.std.specs.Prelude.{◌≡◌, ◌≤◌, ◌<◌, nat_abs};
+ghost use Rattle.std.specs.Prelude.{◌≡◌, ◌≤◌, ◌<◌};
 ghost use Rattle.search.specs.Search.{scan_phase, higher_of, better_of, kept_better, accepted_of, new_of, first_of, ended_of, scanned_of, step_of, first_done, run_of};
 ghost use Rattle.search.specs.Answers.{SaysAnswer, SaysStep};
 ghost use Rattle.search.specs.Constants.{public_constants};
@@ -33,17 +33,10 @@ struct PublicConstants {
     phase_scan_count: u8,
 }
 
-// A decode, or none: the Rust's Option<PhaseDecode>.
-#[derive(Clone, Copy)]
-pub enum Found {
-    Decode(PhaseDecode),
-    Nothing,
-}
-
 // What a finished search hands out: the decode that it found, if any, and the number of steps taken.
 #[derive(Clone, Copy)]
 pub struct SearchAnswer {
-    pub found: Found,
+    pub found: Option<PhaseDecode>,
     pub steps: u8,
 }
 
@@ -57,7 +50,7 @@ pub enum PhaseSearch {
 pub struct BestPhaseSearch {
     preferred: BitLengths,
     step: u8,
-    best: Found,
+    best: Option<PhaseDecode>,
 }
 
 // A step gives the search back beside its answer.
@@ -79,17 +72,7 @@ fn scan_phase(index: u8) -> i8
     }
 }
 
-fn unsigned_abs(phase_ticks: i8) -> u8
-    ensures { result ≡ nat_abs phase_ticks }
-{
-    let wide = phase_ticks as i16;
-    if wide < 0 {
-        (0 - wide) as u8
-    } else {
-        wide as u8
-    }
-}
-
+#[tactic(auto, unfolding(crate::specs::Search::better_of, crate::specs::Search::higher_of, laws::specs::Pick::pick))]
 pub fn is_better_decode(candidate: PhaseDecode, current: PhaseDecode, preferred: BitLengths) -> bool
     ensures { result ≡ better_of candidate current preferred }
 {
@@ -100,7 +83,7 @@ pub fn is_better_decode(candidate: PhaseDecode, current: PhaseDecode, preferred:
     if candidate.score != current.score {
         return current.score < candidate.score;
     }
-    unsigned_abs(candidate.phase_ticks) < unsigned_abs(current.phase_ticks)
+    candidate.phase_ticks.unsigned_abs() < current.phase_ticks.unsigned_abs()
 }
 
 impl BestPhaseSearch {
@@ -110,7 +93,7 @@ impl BestPhaseSearch {
         BestPhaseSearch {
             preferred,
             step: 0,
-            best: Found::Nothing,
+            best: None,
         }
     }
 
@@ -119,39 +102,32 @@ impl BestPhaseSearch {
         ensures value { result ≡ step_of self window }
         ensures says_step { SaysStep result.answer self window }
     {
-        let step = self.step;
-        if step == 0 {
-            let first = window.decode_phase(MANCHESTER_RX_MAX_DECODED_BITS, 0);
-            return self.after_first(first);
+        if self.step == 0 {
+            return self.after_first(window.decode_phase(MANCHESTER_RX_MAX_DECODED_BITS, 0));
         }
-        if PHASE_SCAN_COUNT < step {
+        if PHASE_SCAN_COUNT < self.step {
             return self.ended();
         }
-        let candidate = window.decode_phase(MANCHESTER_RX_MAX_DECODED_BITS, scan_phase(step - 1));
-        self.after_scan(candidate)
+        let phase = scan_phase(self.step - 1);
+        self.after_scan(window.decode_phase(MANCHESTER_RX_MAX_DECODED_BITS, phase))
     }
 
     // The first step says Done if the length at phase 0 is preferred. The search never keeps that decode.
+    #[tactic(auto, unfolding(crate::specs::Search::first_of, laws::specs::Pick::pick))]
     fn after_first(self, first: PhaseDecode) -> Stepped
         ensures { result ≡ first_of self first }
     {
-        let preferred = self.preferred;
-        let best = self.best;
-        let search = BestPhaseSearch {
-            preferred,
-            step: 1,
-            best,
+        let answer = if self.preferred.contains(first.bit_len) {
+            PhaseSearch::Done(SearchAnswer {
+                found: accepted(Some(first)),
+                steps: 1,
+            })
+        } else {
+            PhaseSearch::Searching
         };
-        if preferred.contains(first.bit_len) {
-            let found = accepted(Found::Decode(first));
-            return Stepped {
-                search,
-                answer: PhaseSearch::Done(SearchAnswer { found, steps: 1 }),
-            };
-        }
         Stepped {
-            search,
-            answer: PhaseSearch::Searching,
+            search: BestPhaseSearch { step: 1, ..self },
+            answer,
         }
     }
 
@@ -160,33 +136,31 @@ impl BestPhaseSearch {
         requires { self.step ≤ 4 }
         ensures { result ≡ scanned_of self candidate }
     {
-        let preferred = self.preferred;
-        let step = self.step;
-        let current = self.best;
-        let best = keep_better(current, candidate, preferred);
         let search = BestPhaseSearch {
-            preferred,
-            step: step + 1,
-            best,
+            step: self.step + 1,
+            best: keep_better(self.best, candidate, self.preferred),
+            ..self
         };
-        if step < PHASE_SCAN_COUNT {
-            return Stepped {
-                search,
-                answer: PhaseSearch::Searching,
-            };
+        if PHASE_SCAN_COUNT < search.step {
+            return search.ended();
         }
-        search.ended()
+        Stepped {
+            search,
+            answer: PhaseSearch::Searching,
+        }
     }
 
     // After the scan every step gives the same answer and leaves the search as it is.
+    #[tactic(auto, unfolding(crate::specs::Search::ended_of))]
     fn ended(self) -> Stepped
         ensures { result ≡ ended_of self }
     {
-        let best_so_far = self.best;
-        let found = accepted(best_so_far);
         Stepped {
             search: self,
-            answer: PhaseSearch::Done(SearchAnswer { found, steps: 5 }),
+            answer: PhaseSearch::Done(SearchAnswer {
+                found: accepted(self.best),
+                steps: 5,
+            }),
         }
     }
 
@@ -197,9 +171,8 @@ impl BestPhaseSearch {
         let mut search = self;
         loop {
             let stepped = search.step(window);
-            let answer = stepped.answer;
-            if let PhaseSearch::Done(found) = answer {
-                break found;
+            if let PhaseSearch::Done(answer) = stepped.answer {
+                break answer;
             }
             search = stepped.search;
         }
@@ -207,31 +180,30 @@ impl BestPhaseSearch {
 }
 
 // The better of the best so far and a candidate. The search never keeps a candidate of length 0.
-fn keep_better(best: Found, candidate: PhaseDecode, preferred: BitLengths) -> Found
+#[tactic(auto, unfolding(crate::specs::Search::kept_better, laws::specs::Pick::pick))]
+fn keep_better(
+    best: Option<PhaseDecode>,
+    candidate: PhaseDecode,
+    preferred: BitLengths,
+) -> Option<PhaseDecode>
     ensures { result ≡ kept_better best candidate preferred }
 {
     if candidate.bit_len == 0 {
         return best;
     }
-    let Found::Decode(current) = best else {
-        return Found::Decode(candidate);
-    };
-    if is_better_decode(candidate, current, preferred) {
-        return Found::Decode(candidate);
+    match best {
+        Some(current) if !is_better_decode(candidate, current, preferred) => best,
+        _ => Some(candidate),
     }
-    Found::Decode(current)
 }
 
 // A decode of fewer than three bits is none.
 #[tactic(auto, unfolding(crate::specs::Search::accepted_of, laws::specs::Pick::pick))]
-fn accepted(found: Found) -> Found
+fn accepted(found: Option<PhaseDecode>) -> Option<PhaseDecode>
     ensures { result ≡ accepted_of found }
 {
-    let Found::Decode(decode) = found else {
-        return Found::Nothing;
-    };
-    if decode.bit_len < MANCHESTER_RX_MIN_DECODED_BITS {
-        return Found::Nothing;
+    match found {
+        Some(decode) if MANCHESTER_RX_MIN_DECODED_BITS <= decode.bit_len => found,
+        _ => None,
     }
-    Found::Decode(decode)
 }

@@ -4,8 +4,8 @@ use Prim.Native.Nat.{◌-◌}
 use Rattle.search.specs.Search.{run_of}
 use Rattle.search.proofs.BestPhaseSearch.run.Given as goal
 
-abbrev pub invariant-loop-found : goal.invariant-loop-found
-invariant-loop-found l = run_of l.search l.window ≡ run_of l.initial.search l.window
+abbrev pub invariant-loop-answer : goal.invariant-loop-answer
+invariant-loop-answer l = run_of l.search l.window ≡ run_of l.initial.search l.window
 
-abbrev pub decreases-loop-found : goal.decreases-loop-found
-decreases-loop-found l = 5 - l.search.step
+abbrev pub decreases-loop-answer : goal.decreases-loop-answer
+decreases-loop-answer l = 5 - l.search.step
