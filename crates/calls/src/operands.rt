@@ -4,7 +4,7 @@ use event::{IsrDecode, RxCompletedEvent};
 use fsm::CollisionPolicy;
 use halfbits::HalfBitBuffer;
 use lengths::BitLengths;
-use search::{BestPhaseSearch, Found};
+use search::BestPhaseSearch;
 use text::decimals::{read_byte, read_number};
 use text::fields;
 use text::hex::{read_hex, read_hex_number};
@@ -190,12 +190,8 @@ impl<'a> Operands<'a> {
 
     // A new event that holds a finished search. The same fields say what the search found.
     pub(crate) fn finished_event(&mut self) -> Option<RxCompletedEvent> {
-        let found = match self.decode()? {
-            Some(decode) => Found::Decode(decode),
-            None => Found::Nothing,
-        };
         Some(RxCompletedEvent {
-            isr_decode: IsrDecode::Decoded(found),
+            isr_decode: IsrDecode::Decoded(self.decode()?),
             ..RxCompletedEvent::new()
         })
     }

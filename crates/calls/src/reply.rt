@@ -3,8 +3,8 @@ use crate::bytes::{ByteString, Hex};
 use event::RxCompletedEvent;
 use fsm::{BusState, DaliBitbangPhy, RxState, TxPollResult};
 use halfbits::HalfBitBuffer;
-use rx_decode::{BackwardByte, SniffedDecode, SniffedFrame};
-use search::{BestPhaseSearch, Found, PhaseSearch, SearchAnswer};
+use rx_decode::{SniffedDecode, SniffedFrame};
+use search::{BestPhaseSearch, PhaseSearch, SearchAnswer};
 use std::fmt;
 use window::{PhaseDecode, SampleWindow};
 
@@ -33,7 +33,7 @@ pub(crate) enum Reply {
     // a search before its steps, how many it takes, and on which window
     Steps(BestPhaseSearch, u8, SampleWindow),
     Sniffed(SniffedDecode),
-    Backward(BackwardByte),
+    Backward(Option<u8>),
     Encoded(HalfBitBuffer),
     EncodedInto(Result<u8, Refusal>, ByteString),
 }
@@ -63,8 +63,8 @@ impl fmt::Display for Reply {
             Reply::Step(step) => write!(f, "{}{}", found_word(step), Shown(step)),
             Reply::Steps(search, count, window) => steps(f, search, count, window),
             Reply::Sniffed(decode) => write!(f, "{}", Shown(decode)),
-            Reply::Backward(BackwardByte::Byte(byte)) => write!(f, "byte {byte:02x}"),
-            Reply::Backward(BackwardByte::NoByte) => write!(f, "none"),
+            Reply::Backward(Some(byte)) => write!(f, "byte {byte:02x}"),
+            Reply::Backward(None) => write!(f, "none"),
             Reply::Encoded(buffer) => write!(f, "{} {}", buffer.length, Hex(&buffer.data)),
             Reply::EncodedInto(Ok(length), buffer) => write!(
                 f,
@@ -184,8 +184,8 @@ impl fmt::Display for Shown<SearchAnswer> {
     fn fmt<W: fmt::Write>(&self, f: &mut fmt::Formatter<W>) -> fmt::Result {
         let steps = self.0.steps;
         match self.0.found {
-            Found::Decode(decode) => write!(f, "found {steps} {}", Shown(decode)),
-            Found::Nothing => write!(f, "nothing {steps}"),
+            Some(decode) => write!(f, "found {steps} {}", Shown(decode)),
+            None => write!(f, "nothing {steps}"),
         }
     }
 }
@@ -196,8 +196,8 @@ impl fmt::Display for Shown<PhaseSearch> {
         match self.0 {
             PhaseSearch::Searching => write!(f, "searching"),
             PhaseSearch::Done(done) => match done.found {
-                Found::Decode(decode) => write!(f, "{}", Shown(decode)),
-                Found::Nothing => write!(f, "nothing"),
+                Some(decode) => write!(f, "{}", Shown(decode)),
+                None => write!(f, "nothing"),
             },
         }
     }
@@ -224,7 +224,7 @@ fn found_word(step: PhaseSearch) -> &'static str {
     match step {
         PhaseSearch::Done(
             SearchAnswer {
-                found: Found::Decode(_),
+                found: Some(_),
                 ..
             },
         ) => "found ",
