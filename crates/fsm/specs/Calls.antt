@@ -1,25 +1,24 @@
 -- Source document 000's other calls that change a station: a new policy, the after-break mark, and the take of a capture. Assumes nothing.
-use Rattle.std.specs.Prelude.{Bool, false}
+use Rattle.std.specs.Prelude.{Bool, false, Option, Some, None}
 use Rattle.laws.specs.Pick.{pick}
-use Rattle.event.specs.Event.{new_event}
+use Rattle.event.specs.declared.RxCompletedEvent.{RxCompletedEvent}
 use Rattle.machine.specs.Fields as core
 use Rattle.machine.specs.States.{is_completed}
 use Rattle.machine.specs.declared.RxState.TheVariants.{Empty}
 use Rattle.machine.specs.declared.CollisionPolicy.{CollisionPolicy}
 use Rattle.fsm.specs.Station.{last_event, with_core}
 use Rattle.fsm.specs.declared.DaliBitbangPhy.{DaliBitbangPhy}
-use Rattle.fsm.specs.declared.TookIdle.{TookIdle}
-use Rattle.fsm.specs.declared.TookRx.{TookRx}
+use Rattle.fsm.specs.declared.Answered.{Answered}
 
 -- The station has another policy, and nothing else changes.
 unfoldable pub with_policy : DaliBitbangPhy → CollisionPolicy → DaliBitbangPhy
 with_policy s p = with_core s (core.with_policy s.core p)
 
 -- The call reports the after-break mark and clears it.
-unfoldable pub took_idle : DaliBitbangPhy → TookIdle
+unfoldable pub took_idle : DaliBitbangPhy → Answered Bool
 took_idle s = record {
   station = with_core s (core.with_tx_idle_after_break s.core false);
-  idle = s.core.told.tx_idle_after_break;
+  answer = s.core.told.tx_idle_after_break;
 }
 
 -- A capture is complete, and nobody has taken it.
@@ -30,10 +29,9 @@ has_event s = is_completed s.core.told.rx_state
 unfoldable pub acknowledged : DaliBitbangPhy → DaliBitbangPhy
 acknowledged s = pick (has_event s) (with_core s (core.with_rx_state s.core Empty)) s
 
--- A take hands out the last event and acknowledges it. If there is none to take, it hands out a fresh event.
-unfoldable pub took_rx : DaliBitbangPhy → TookRx
+-- A take hands out the last event and acknowledges it, if there is one to take.
+unfoldable pub took_rx : DaliBitbangPhy → Answered (Option RxCompletedEvent)
 took_rx s = record {
   station = acknowledged s;
-  completed = has_event s;
-  event = pick (has_event s) (last_event s) new_event;
+  answer = pick (has_event s) (Some (last_event s)) None;
 }

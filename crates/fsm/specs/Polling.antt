@@ -7,7 +7,7 @@ use Rattle.fsm.specs.Station.{with_core}
 use Rattle.fsm.specs.declared.DaliBitbangPhy.{DaliBitbangPhy}
 use Rattle.fsm.specs.declared.TxPollResult.{TxPollResult}
 use Rattle.fsm.specs.declared.TxPollResult.TheVariants.{Ok, Collision, Transmitting, Yielded}
-use Rattle.fsm.specs.declared.Polled.{Polled}
+use Rattle.fsm.specs.declared.Answered.{Answered}
 
 -- the number of each answer, which is source document 000's (fsm.rs)
 abbrev pub poll_result_number : TxPollResult → ℕ
@@ -24,12 +24,12 @@ SaysPoll Transmitting s = (s.core.told.tx_yielded ≡ false) × (s.core.told.tx_
 SaysPoll Ok s = (s.core.told.tx_yielded ≡ false) × (s.core.told.tx_collision ≡ 0) × (is_tx s.core.bus.bus_state ≡ false)
 
 -- a station beside its answer
-abbrev pub polled_with : DaliBitbangPhy → TxPollResult → Polled
+abbrev pub polled_with : DaliBitbangPhy → TxPollResult → Answered TxPollResult
 polled_with s answer = record { station = s; answer = answer }
 
 -- A poll reports a yield first, then a collision, and clears the one that it reports. Without either it answers Transmitting in Tx and Ok in every
 -- other state, in a break too.
-unfoldable pub polled : DaliBitbangPhy → Polled
+unfoldable pub polled : DaliBitbangPhy → Answered TxPollResult
 polled s =
     pick s.core.told.tx_yielded
     (polled_with (with_core s (with_tx_yielded s.core false)) Yielded)

@@ -1,16 +1,16 @@
 // The station of source document 000 (fsm.rs): its captures, its tick and every other call. A station goes in and comes back by value.
 #![tactic(auto)]
 
-ghost use Rattle.std.specs.Prelude.{◌≡◌, not, ◌+◌, ◌-◌, ◌*◌, ◌%◌, min, eqb};
+ghost use Rattle.std.specs.Prelude.{◌≡◌, true, not, ◌+◌, ◌-◌, ◌*◌, ◌%◌, min, eqb};
 ghost use Rattle.laws.specs.Bit.{bit};
 ghost use Rattle.capture.specs.Samples.{with_byte};
 ghost use Rattle.machine.specs.States.{is_idle, hears};
-ghost use Rattle.machine.specs.Fields.{with_rx, with_told, with_rx_state};
+ghost use Rattle.machine.specs.Fields.{with_rx, with_rx_state};
 ghost use Rattle.fsm.specs.Constants.{public_constants};
 ghost use Rattle.fsm.specs.Station.{last_event, with_core, new_core, new_station};
 ghost use Rattle.fsm.specs.Rx.{shifted, high_run, filled_up, shifted_in, sampled, finished, notified, went_on, rx_tick};
 ghost use Rattle.fsm.specs.Ticking.{tick_in, ticked};
-ghost use Rattle.fsm.specs.Refusals.{start_answer_number, start_number};
+ghost use Rattle.fsm.specs.Refusals.{start_error_number, start_answer_number, start_number};
 ghost use Rattle.fsm.specs.Starting.{length_fits, started, start_tx_of, start_answer_of};
 ghost use Rattle.fsm.specs.Polling.{poll_result_number, SaysPoll, polled};
 ghost use Rattle.fsm.specs.Calls.{with_policy, took_idle, acknowledged, took_rx};
@@ -48,10 +48,9 @@ pub enum TxPollResult {
     Yielded = 5,
 }
 
-// A start call answers with the number of its refusal, or with 0 if it doesn't refuse.
-#[derive(Clone, Copy)]
-pub enum StartAnswer {
-    Started = 0,
+// Why a station refuses a start: its state doesn't allow one, or it can't send a frame of this length.
+#[derive(Clone, Copy, PartialEq, Eq)]
+pub enum StartError {
     Busy = 7,
     BadLength = 8,
 }
@@ -61,22 +60,13 @@ pub enum StartAnswer {
 fn tx_poll_result_number(res: TxPollResult) -> u8
     ensures { result ≡ poll_result_number res }
 {
-    match res {
-        TxPollResult::Ok => TxPollResult::Ok as u8,
-        TxPollResult::Collision => TxPollResult::Collision as u8,
-        TxPollResult::Transmitting => TxPollResult::Transmitting as u8,
-        TxPollResult::Yielded => TxPollResult::Yielded as u8,
-    }
+    res as u8
 }
 
-fn start_answer_number(answer: StartAnswer) -> u8
-    ensures { result ≡ start_answer_number answer }
+fn start_error_number(error: StartError) -> u8
+    ensures { result ≡ start_error_number error }
 {
-    match answer {
-        StartAnswer::Started => StartAnswer::Started as u8,
-        StartAnswer::Busy => StartAnswer::Busy as u8,
-        StartAnswer::BadLength => StartAnswer::BadLength as u8,
-    }
+    error as u8
 }
 
 pub fn settle_ticks_on_wire(pre_idle_ticks: u16, lead: u8) -> u16
@@ -119,29 +109,9 @@ pub struct Ticked {
 }
 
 #[derive(Clone, Copy)]
-pub struct Started {
+pub struct Answered<T> {
     pub station: DaliBitbangPhy,
-    pub answer: StartAnswer,
-}
-
-#[derive(Clone, Copy)]
-pub struct Polled {
-    pub station: DaliBitbangPhy,
-    pub answer: TxPollResult,
-}
-
-#[derive(Clone, Copy)]
-pub struct TookIdle {
-    pub station: DaliBitbangPhy,
-    pub idle: bool,
-}
-
-// If no capture is complete, the event is a fresh one.
-#[derive(Clone, Copy)]
-pub struct TookRx {
-    pub station: DaliBitbangPhy,
-    pub completed: bool,
-    pub event: RxCompletedEvent,
+    pub answer: T,
 }
 
 // All bytes past the 63rd go to slot 63.
@@ -383,15 +353,6 @@ impl DaliBitbangPhy {
         self
     }
 
-    fn with_told(mut self, told: Told) -> DaliBitbangPhy
-        ensures { result ≡ with_core self (with_told self.core told) }
-    {
-        let mut core = self.core;
-        core.told = told;
-        self.core = core;
-        self
-    }
-
     // The capture that has ended becomes the last event.
     pub fn finish_rx_and_notify(mut self, core: Core, rx_data: Samples) -> DaliBitbangPhy
         ensures { result ≡ notified self core rx_data }
@@ -453,51 +414,51 @@ impl DaliBitbangPhy {
         }
     }
 
-    pub fn start_tx(self, halfbits: HalfBitBuffer) -> Started
+    #[tactic(auto, unfolding(crate::specs::Refusals::start_number, crate::specs::Starting::start_tx_of, machine::specs::States::is_idle, laws::specs::Pick::pick))]
+    pub fn start_tx(self, halfbits: HalfBitBuffer) -> Answered<Result<(), StartError>>
         ensures value { result ≡ start_tx_of self halfbits }
         ensures answer_value { start_answer_number result.answer ≡ start_number (is_idle self.core.bus.bus_state) (length_fits halfbits.length) }
     {
-        let bus_state = self.bus_state();
-        if bus_state.is_idle() {
+        if self.bus_state() == BusState::Idle {
             return self.load_tx(halfbits, false);
         }
-        Started {
+        Answered {
             station: self,
-            answer: StartAnswer::Busy,
+            answer: Err(StartError::Busy),
         }
     }
 
     // IEC 62386-101, 9.1.1, Table 17
-    pub fn start_answer(self, halfbits: HalfBitBuffer) -> Started
+    #[tactic(auto, unfolding(crate::specs::Refusals::start_number, crate::specs::Starting::start_answer_of, machine::specs::States::hears, laws::specs::Pick::pick))]
+    pub fn start_answer(self, halfbits: HalfBitBuffer) -> Answered<Result<(), StartError>>
         ensures value { result ≡ start_answer_of self halfbits }
         ensures answer_value { start_answer_number result.answer ≡ start_number (hears self.core.bus.bus_state) (length_fits halfbits.length) }
     {
-        let bus_state = self.bus_state();
-        if bus_state.is_idle_or_rx() {
+        if matches!(self.bus_state(), BusState::Idle | BusState::Rx) {
             return self.load_tx(halfbits, true);
         }
-        Started {
+        Answered {
             station: self,
-            answer: StartAnswer::Busy,
+            answer: Err(StartError::Busy),
         }
     }
 
-    fn load_tx(mut self, halfbits: HalfBitBuffer, answer: bool) -> Started
-        ensures { result ≡ started self halfbits answer }
+    #[tactic(auto, unfolding(crate::specs::Refusals::start_number, crate::specs::Starting::started, crate::specs::Starting::loaded_with, laws::specs::Pick::pick))]
+    fn load_tx(mut self, halfbits: HalfBitBuffer, answer: bool) -> Answered<Result<(), StartError>>
+        ensures value { result ≡ started self halfbits answer }
+        ensures answer_value { start_answer_number result.answer ≡ start_number true (length_fits halfbits.length) }
     {
-        if length_fits(halfbits.length) {
-            let loaded = self.core.load_tx(answer);
-            let tx_hb = TxHb::of(halfbits);
-            self.core = loaded;
-            self.tx_hb = tx_hb;
-            return Started {
+        if !length_fits(halfbits.length) {
+            return Answered {
                 station: self,
-                answer: StartAnswer::Started,
+                answer: Err(StartError::BadLength),
             };
         }
-        Started {
+        self.core = self.core.load_tx(answer);
+        self.tx_hb = TxHb::of(halfbits);
+        Answered {
             station: self,
-            answer: StartAnswer::BadLength,
+            answer: Ok(()),
         }
     }
 
@@ -514,67 +475,47 @@ impl DaliBitbangPhy {
         self.core.bus.rx_debounce != 0
     }
 
-    pub fn poll_tx_state(self) -> Polled
+    #[tactic(auto, unfolding(crate::specs::Polling::polled, crate::specs::Polling::SaysPoll, machine::specs::States::is_tx, laws::specs::Pick::pick))]
+    pub fn poll_tx_state(mut self) -> Answered<TxPollResult>
         ensures value { result ≡ polled self }
         ensures says_poll { SaysPoll result.answer self }
     {
-        let was = self.core.told;
-        let rx_state = was.rx_state;
-        if was.tx_yielded {
-            let told = Told {
-                tx_pre_idle: was.tx_pre_idle,
-                rx_state,
-                tx_collision: was.tx_collision,
-                tx_idle_after_break: was.tx_idle_after_break,
-                tx_yielded: false,
-            };
-            return Polled {
-                station: self.with_told(told),
+        if self.core.told.tx_yielded {
+            self.core.told.tx_yielded = false;
+            return Answered {
+                station: self,
                 answer: TxPollResult::Yielded,
             };
         }
-        if was.tx_collision != 0 {
-            let told = Told {
-                tx_pre_idle: was.tx_pre_idle,
-                rx_state,
-                tx_collision: 0,
-                tx_idle_after_break: was.tx_idle_after_break,
-                tx_yielded: was.tx_yielded,
-            };
-            return Polled {
-                station: self.with_told(told),
+        if self.core.told.tx_collision != 0 {
+            self.core.told.tx_collision = 0;
+            return Answered {
+                station: self,
                 answer: TxPollResult::Collision,
             };
         }
-        let bus_state = self.bus_state();
-        if bus_state.is_tx() {
-            return Polled {
+        if self.bus_state() == BusState::Tx {
+            return Answered {
                 station: self,
                 answer: TxPollResult::Transmitting,
             };
         }
-        Polled {
+        Answered {
             station: self,
             answer: TxPollResult::Ok,
         }
     }
 
     // IEC 62386-101, 9.1.4
-    pub fn take_idle_after_break(self) -> TookIdle
+    #[tactic(auto, unfolding(crate::specs::Calls::took_idle))]
+    pub fn take_idle_after_break(mut self) -> Answered<bool>
         ensures { result ≡ took_idle self }
     {
-        let was = self.core.told;
-        let rx_state = was.rx_state;
-        let told = Told {
-            tx_pre_idle: was.tx_pre_idle,
-            rx_state,
-            tx_collision: was.tx_collision,
-            tx_idle_after_break: false,
-            tx_yielded: was.tx_yielded,
-        };
-        TookIdle {
-            station: self.with_told(told),
-            idle: was.tx_idle_after_break,
+        let answer = self.core.told.tx_idle_after_break;
+        self.core.told.tx_idle_after_break = false;
+        Answered {
+            station: self,
+            answer,
         }
     }
 
@@ -633,31 +574,29 @@ impl DaliBitbangPhy {
         )
     }
 
-    pub fn acknowledge_rx_frame(self) -> DaliBitbangPhy
+    #[tactic(auto, unfolding(crate::specs::Calls::acknowledged, machine::specs::States::is_completed, laws::specs::Pick::pick))]
+    pub fn acknowledge_rx_frame(mut self) -> DaliBitbangPhy
         ensures { result ≡ acknowledged self }
     {
-        let rx_state = self.rx_state();
-        if rx_state.is_completed() {
-            return self.with_core(in_rx_state(self.core, RxState::Empty));
+        if self.rx_state() == RxState::Completed {
+            self.core.told.rx_state = RxState::Empty;
         }
         self
     }
 
-    pub fn take_completed_rx_event(self) -> TookRx
+    #[tactic(auto, unfolding(crate::specs::Calls::took_rx, crate::specs::Calls::acknowledged, machine::specs::States::is_completed, laws::specs::Pick::pick))]
+    pub fn take_completed_rx_event(self) -> Answered<Option<RxCompletedEvent>>
         ensures { result ≡ took_rx self }
     {
-        let rx_state = self.rx_state();
-        if rx_state.is_completed() {
-            return TookRx {
-                station: self.acknowledge_rx_frame(),
-                completed: true,
-                event: self.last_rx_event(),
+        if self.rx_state() != RxState::Completed {
+            return Answered {
+                station: self,
+                answer: None,
             };
         }
-        TookRx {
-            station: self,
-            completed: false,
-            event: RxCompletedEvent::new(),
+        Answered {
+            station: self.acknowledge_rx_frame(),
+            answer: Some(self.last_rx_event()),
         }
     }
 }

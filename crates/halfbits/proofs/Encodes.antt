@@ -1,21 +1,24 @@
 -- The encoder's frame: the first bits of its three bytes. Assumes nothing.
 use mathlib.Core.Path.{◌≡◌, refl, sym, ◌∙◌, ap, subst}
-use mathlib.Core.Bool.{Bool, true, false, not}
+use mathlib.Core.Bool.{Bool, true, false}
 use mathlib.Core.List.{List, [], ◌∷◌, ◌++◌}
 use Prim.Native.Nat.{ℕ, ◌≤◌}
 use native.Mathlib.Omega.{arith}
-use lib.Dec.{eqb}
+use lib.Dec.{eqb, leb}
 use lib.ListN.{length}
 use borrow.Author.Tests.{eqb-true, le-leb}
 use Rattle.laws.specs.Pick.{pick}
 use Rattle.laws.specs.Tabulate.{tabulate}
-use Rattle.laws.proofs.Picked.{on_true}
+use Rattle.laws.proofs.Picked.{on_true, on_false}
 use Rattle.laws.proofs.Tabulated.{length_tabulate}
-use Rattle.halfbits.specs.Frame.{bytes_of, bit_at, bits_of, frame_bits}
+use Rattle.std.specs.Prelude.{Ok}
+use Rattle.std.specs.Result.{result_map_both}
+use Rattle.halfbits.specs.declared.HalfBitBuffer.{HalfBitBuffer}
+use Rattle.halfbits.specs.declared.EncodeError.{EncodeError}
+use Rattle.halfbits.specs.Frame.{Frame, bytes_of, bit_at, bits_of, frame_bits}
 use Rattle.halfbits.specs.HalfBits.{store_of, buffer_of}
 use Rattle.halfbits.specs.Encoding.{is_bit_count, frame_of, answer_of, written_to, encoded_of, FormsAgree}
 use Rattle.halfbits.specs.Code.{half_bits, bytes_in}
-use Rattle.halfbits.proofs.Levels.{not_not}
 use Rattle.halfbits.proofs.Halves.{bytes_are}
 
 -- what holds of 8, 16 and 24 holds of every bit count of a frame
@@ -50,16 +53,21 @@ module _ (first second third : ℕ) where
   unfolding store_of tabulate
   stored_alone n all out h e f = stored n all [] out h e f
 
--- ---- the code's test
-pub is_count : (n : ℕ) {r : Bool} → not r ≡ false → r ≡ is_bit_count n → is_bit_count n ≡ true
-is_count n {r} h e = sym e ∙ sym (not_not r) ∙ ap not h
-
-pub no_count : (n : ℕ) {r : Bool} → not r ≡ true → r ≡ is_bit_count n → is_bit_count n ≡ false
-no_count n {r} h e = sym e ∙ sym (not_not r) ∙ ap not h
-
 -- ---- the two forms
 pub forms_agree : FormsAgree
 unfolding answer_of written_to encoded_of buffer_of
 forms_agree bits first second third out room =
-    let fits = le-leb 7 (length out) room in
-    (simp (on_true fits, on_true refl), λ counts. (simp (on_true counts, on_true fits), simp (on_true counts, on_true refl, as_many first second third bits counts)))
+    (same (is_bit_count bits) refl, λ counts. (buffer_of (frame_bits frame), on_true counts _ _, simp (on_true counts, on_true fits), both counts))
+  where
+    frame : Frame
+    frame = frame_of bits first second third
+
+    fits : leb 7 (length out) ≡ true
+    fits = le-leb 7 (length out) room
+
+    both : is_bit_count bits ≡ true → answer_of bits (length out) ≡ Ok (buffer_of (frame_bits frame)).length
+    both counts = simp (on_true counts, on_true fits, as_many first second third bits counts)
+
+    same : (t : Bool) → is_bit_count bits ≡ t → answer_of bits (length out) ≡ result_map_both (λ (buffer : HalfBitBuffer). buffer.length) (λ (e : EncodeError). e) (encoded_of bits frame)
+    same true counts = simp (on_true counts, on_true fits, as_many first second third bits counts)
+    same false counts = simp (on_false counts)

@@ -7,7 +7,7 @@ ghost use Rattle.laws.specs.Tabulate.{tabulate};
 ghost use Rattle.halfbits.specs.Constants.{public_constants};
 ghost use Rattle.halfbits.specs.Frame.{bit_at};
 ghost use Rattle.halfbits.specs.HalfBits.{half_bits_of};
-ghost use Rattle.halfbits.specs.Encoding.{is_bit_count, frame_of, encode_answer_number, encode_number, answer_of, written_to, empty_buffer, encoded_of};
+ghost use Rattle.halfbits.specs.Encoding.{is_bit_count, frame_of, encode_error_number, encode_answer_number, encode_number, answer_of, written_to, encoded_of};
 ghost use Rattle.halfbits.specs.Code.{half_bits, bytes_in};
 
 #[derive(Clone, Copy)]
@@ -16,18 +16,18 @@ pub struct HalfBitBuffer {
     pub length: u8,
 }
 
-// The encoder answers with the length in half-bits, or with a refusal: 5 for the bit count, 6 for a short buffer.
-#[derive(Clone, Copy)]
-pub enum EncodeAnswer {
-    Length(u8),
-    BadBitCount,
-    ShortBuffer,
+// Why the encoder refuses: no frame has this bit count, or the lent buffer has no room for the store.
+#[derive(Clone, Copy, PartialEq, Eq)]
+pub enum EncodeError {
+    BadBitCount = 5,
+    ShortBuffer = 6,
 }
 
-#[derive(Clone, Copy)]
-pub struct Encoded {
-    pub buffer: HalfBitBuffer,
-    pub answer: EncodeAnswer,
+// Nobody calls this: its promise says what number each case has.
+fn encode_error_number(error: EncodeError) -> u8
+    ensures { result ≡ encode_error_number error }
+{
+    error as u8
 }
 
 impl HalfBitBuffer {
@@ -35,63 +35,52 @@ impl HalfBitBuffer {
 
     pub const MAX_DATA_HALF_BITS: u8 = 54;
 
-    // Its length is 0, so no start takes it.
-    fn empty() -> HalfBitBuffer
-        ensures { result ≡ empty_buffer }
-    {
-        HalfBitBuffer {
-            data: [0; HalfBitBuffer::DATA_LEN],
-            length: 0,
-        }
-    }
-
     // The buffer that a start takes, for a frame of 8, 16 or 24 bits. The encoder ignores the bytes that the frame doesn't need.
-    pub fn encode(bits: u8, first: u8, second: u8, third: u8) -> Encoded
+    #[tactic(auto, using(crate::proofs::Encodes::few, crate::proofs::Encodes::stored_alone, crate::proofs::Encodes::as_many), unfolding(crate::specs::Encoding::encoded_of, crate::specs::Encoding::encode_answer_number, crate::specs::Encoding::encode_number, crate::specs::HalfBits::buffer_of, laws::specs::Pick::pick))]
+    pub fn encode(bits: u8, first: u8, second: u8, third: u8) -> Result<HalfBitBuffer, EncodeError>
         ensures value { result ≡ encoded_of bits (frame_of bits first second third) }
-        ensures answer_value { encode_answer_number result.answer ≡ encode_number (is_bit_count bits) true }
+        ensures answer_value { encode_answer_number result ≡ encode_number (is_bit_count bits) true }
     {
         if !is_bit_count(bits) {
-            return Encoded {
-                buffer: HalfBitBuffer::empty(),
-                answer: EncodeAnswer::BadBitCount,
-            };
+            return Err(EncodeError::BadBitCount);
         }
-        let mut data = [0u8; HalfBitBuffer::DATA_LEN];
+        let mut data = [0; HalfBitBuffer::DATA_LEN];
         put_store(half_bits(bits, [first, second, third]), &mut data);
-        let length = length_of(bits);
-        Encoded {
-            buffer: HalfBitBuffer { data, length },
-            answer: EncodeAnswer::Length(length),
-        }
+        Ok(HalfBitBuffer {
+            data,
+            length: length_of(bits),
+        })
     }
 }
 
-// Writes the same half-bits to the first seven bytes of a lent buffer.
-pub fn encode_into(bits: u8, first: u8, second: u8, third: u8, out: &mut [u8]) -> EncodeAnswer
+// Writes the same half-bits to the first seven bytes of a lent buffer, and answers with their number.
+#[tactic(auto, using(crate::proofs::Encodes::few, crate::proofs::Encodes::stored), unfolding(crate::specs::Encoding::answer_of, crate::specs::Encoding::encode_answer_number, crate::specs::Encoding::encode_number, crate::specs::Encoding::written_to, laws::specs::Pick::pick))]
+pub fn encode_into(
+    bits: u8,
+    first: u8,
+    second: u8,
+    third: u8,
+    out: &mut [u8],
+) -> Result<u8, EncodeError>
     ensures value { result ≡ answer_of bits (length out.old) }
     ensures result_value { encode_answer_number result ≡ encode_number (is_bit_count bits) (leb 7 (length out.old)) }
     ensures out_after { out.new ≡ written_to bits (frame_of bits first second third) out.old }
 {
     if !is_bit_count(bits) {
-        return EncodeAnswer::BadBitCount;
+        return Err(EncodeError::BadBitCount);
     }
     if out.len() < HalfBitBuffer::DATA_LEN {
-        return EncodeAnswer::ShortBuffer;
+        return Err(EncodeError::ShortBuffer);
     }
     put_store(half_bits(bits, [first, second, third]), out);
-    EncodeAnswer::Length(length_of(bits))
+    Ok(length_of(bits))
 }
 
+#[tactic(auto, unfolding(crate::specs::Encoding::is_bit_count, laws::specs::Pick::pick))]
 fn is_bit_count(bits: u8) -> bool
     ensures { result ≡ is_bit_count bits }
 {
-    if bits == 8 {
-        return true;
-    }
-    if bits == 16 {
-        return true;
-    }
-    bits == 24
+    matches!(bits, 8 | 16 | 24)
 }
 
 // The start bit and each data bit have two half-bits. Four released ones follow.
@@ -109,12 +98,10 @@ fn half_bits(bits: u8, bytes: [u8; 3]) -> u64
     ensures { result ≡ half_bits (tabulate bits (bit_at bytes)) }
 {
     let mut all: u64 = 2;
-    let mut at: u8 = 0;
-    while at < bits {
+    for at in 0..bits {
         let byte = bytes[at as usize / 8];
         let one = (byte >> (7 - at % 8)) % 2;
-        all = all * 4 + 1 + one as u64;
-        at += 1;
+        all = all * 4 + 1 + u64::from(one);
     }
     all << (54 - 2 * bits)
 }
@@ -124,10 +111,8 @@ fn put_store(all: u64, out: &mut [u8])
     requires { 7 ≤ length out.old }
     ensures { out.new ≡ bytes_in all ++ drop 7 out.old }
 {
-    let mut at = 0;
-    while at < HalfBitBuffer::DATA_LEN {
+    for at in 0..HalfBitBuffer::DATA_LEN {
         out[at] = ((all >> (48 - 8 * at)) % 256) as u8;
-        at += 1;
     }
 }
 

@@ -1,10 +1,6 @@
 -- Any two results that meet a public promise of this crate are equal. `Post` is the promise itself, as the check reads it from the source.
 -- Assumes nothing.
 use Rattle.laws.proofs.Only.{Only, named}
-use Rattle.machine.proofs.BusState.is_idle.Reads as is_idle
-use Rattle.machine.proofs.BusState.is_idle_or_rx.Reads as is_idle_or_rx
-use Rattle.machine.proofs.BusState.is_tx.Reads as is_tx
-use Rattle.machine.proofs.RxState.is_completed.Reads as is_completed
 use Rattle.machine.proofs.saturating_inc16.Reads as saturating_inc16
 use Rattle.machine.proofs.saturating_inc8.Reads as saturating_inc8
 use Rattle.machine.proofs.wrapping_inc8.Reads as wrapping_inc8
@@ -18,18 +14,6 @@ use Rattle.machine.proofs.Core.hold_half_bit.Reads as hold_half_bit
 use Rattle.machine.proofs.Core.tick_tx.Reads as tick_tx
 use Rattle.machine.proofs.Core.tick_collision_tx.Reads as tick_collision_tx
 use Rattle.machine.proofs.Core.load_tx.Reads as load_tx
-
-pub is_idle_sole : (κs : _) (a : _) (x : _) → Only (λ r. is_idle.Post κs a r x)
-is_idle_sole κs a x = named _
-
-pub is_idle_or_rx_sole : (κs : _) (a : _) (x : _) → Only (λ r. is_idle_or_rx.Post κs a r x)
-is_idle_or_rx_sole κs a x = named _
-
-pub is_tx_sole : (κs : _) (a : _) (x : _) → Only (λ r. is_tx.Post κs a r x)
-is_tx_sole κs a x = named _
-
-pub is_completed_sole : (κs : _) (a : _) (x : _) → Only (λ r. is_completed.Post κs a r x)
-is_completed_sole κs a x = named _
 
 pub saturating_inc16_sole : (κs : _) (a : _) (x : _) → Only (λ r. saturating_inc16.Post κs a r x)
 saturating_inc16_sole κs a x = named _

@@ -5,7 +5,6 @@
 ghost use Rattle.std.specs.Prelude.{◌≡◌, ◌+◌, ◌-◌, ◌%◌, ◌<◌, min};
 ghost use Rattle.machine.specs.Constants.{public_constants};
 ghost use Rattle.machine.specs.Numbers.{bus_state_number, rx_state_number, collision_policy_number};
-ghost use Rattle.machine.specs.States.{is_idle, hears, is_tx, is_completed};
 ghost use Rattle.machine.specs.Runs.{runs_counted};
 ghost use Rattle.machine.specs.Idle.{entered, silent, fell, idle_tick};
 ghost use Rattle.machine.specs.Sending.{half_bits_in, tx_hb_of, releases_at, watches_of, clash_of, armed_step, tx_step, is_hold, armed, yielded, clashed, held, driven, after_step, tx_tick};
@@ -60,7 +59,7 @@ struct PublicConstants {
     collision_break_ticks: u8,
 }
 
-#[derive(Clone, Copy)]
+#[derive(Clone, Copy, PartialEq, Eq)]
 pub enum BusState {
     Idle = 0,
     Rx = 1,
@@ -68,14 +67,14 @@ pub enum BusState {
     CollisionTx = 4,
 }
 
-#[derive(Clone, Copy)]
+#[derive(Clone, Copy, PartialEq, Eq)]
 pub enum RxState {
     Empty = 0,
     Receiving = 1,
     Completed = 2,
 }
 
-#[derive(Clone, Copy)]
+#[derive(Clone, Copy, PartialEq, Eq)]
 pub enum CollisionPolicy {
     Auto = 0,
     Off = 1,
@@ -87,80 +86,19 @@ pub enum CollisionPolicy {
 fn bus_state_number(bus_state: BusState) -> u8
     ensures { result ≡ bus_state_number bus_state }
 {
-    match bus_state {
-        BusState::Idle => BusState::Idle as u8,
-        BusState::Rx => BusState::Rx as u8,
-        BusState::Tx => BusState::Tx as u8,
-        BusState::CollisionTx => BusState::CollisionTx as u8,
-    }
+    bus_state as u8
 }
 
 fn rx_state_number(rx_state: RxState) -> u8
     ensures { result ≡ rx_state_number rx_state }
 {
-    match rx_state {
-        RxState::Empty => RxState::Empty as u8,
-        RxState::Receiving => RxState::Receiving as u8,
-        RxState::Completed => RxState::Completed as u8,
-    }
+    rx_state as u8
 }
 
 fn collision_policy_number(collision_policy: CollisionPolicy) -> u8
     ensures { result ≡ collision_policy_number collision_policy }
 {
-    match collision_policy {
-        CollisionPolicy::Auto => CollisionPolicy::Auto as u8,
-        CollisionPolicy::Off => CollisionPolicy::Off as u8,
-        CollisionPolicy::On => CollisionPolicy::On as u8,
-    }
-}
-
-// The language can't compare two states, so each question about a state is a function.
-impl BusState {
-    pub fn is_idle(self) -> bool
-        ensures { result ≡ is_idle self }
-    {
-        match self {
-            BusState::Idle => true,
-            BusState::Rx => false,
-            BusState::Tx => false,
-            BusState::CollisionTx => false,
-        }
-    }
-
-    pub fn is_idle_or_rx(self) -> bool
-        ensures { result ≡ hears self }
-    {
-        match self {
-            BusState::Idle => true,
-            BusState::Rx => true,
-            BusState::Tx => false,
-            BusState::CollisionTx => false,
-        }
-    }
-
-    pub fn is_tx(self) -> bool
-        ensures { result ≡ is_tx self }
-    {
-        match self {
-            BusState::Idle => false,
-            BusState::Rx => false,
-            BusState::Tx => true,
-            BusState::CollisionTx => false,
-        }
-    }
-}
-
-impl RxState {
-    pub fn is_completed(self) -> bool
-        ensures { result ≡ is_completed self }
-    {
-        match self {
-            RxState::Empty => false,
-            RxState::Receiving => false,
-            RxState::Completed => true,
-        }
-    }
+    collision_policy as u8
 }
 
 // For how many ticks the line has been high, and for how many low.
