@@ -25,7 +25,7 @@ use Rattle.machine.specs.Starting.{loaded}
 use Rattle.fsm.specs.declared.DaliBitbangPhy.{DaliBitbangPhy}
 use Rattle.fsm.specs.declared.Answered.{Answered}
 use Rattle.fsm.specs.declared.StartError.{StartError}
-use Rattle.std.specs.declared.result.Result.TheVariants as start
+use Rattle.std.specs.declared.result.Result.TheVariants as result
 use Rattle.fsm.specs.declared.StartError.TheVariants.{Busy, BadLength}
 use Rattle.fsm.specs.Station.{with_core}
 use Rattle.fsm.specs.Ticking.{tick_in, tick_of}
@@ -43,11 +43,11 @@ use Rattle.station_theorems.proofs.ByState.{tick_by}
 
 -- ---- a start that is not refused
 is_started : Result ⊤ StartError → Bool
-is_started (start.Ok tt) = true
-is_started (start.Err Busy) = false
-is_started (start.Err BadLength) = false
+is_started (result.Ok tt) = true
+is_started (result.Err Busy) = false
+is_started (result.Err BadLength) = false
 
-refused : (x : Result ⊤ StartError) → is_started x ≡ false → x ≡ start.Ok tt → ⊥
+refused : (x : Result ⊤ StartError) → is_started x ≡ false → x ≡ result.Ok tt → ⊥
 unfolding is_started
 refused x e f = false≢true (sym e ∙ ap is_started f)
 
@@ -57,14 +57,14 @@ pub record Taken (s : DaliBitbangPhy) (hb : HalfBitBuffer) (answer allowed : Boo
   pub left : x.station ≡ loaded_with s hb answer
 
 taken : (s : DaliBitbangPhy) (hb : HalfBitBuffer) (answer allowed : Bool)
-    → (pick {A = Answered (Result ⊤ StartError)} allowed (started s hb answer) (started_with s (start.Err Busy))).answer ≡ start.Ok tt
-    → Taken s hb answer allowed (pick {A = Answered (Result ⊤ StartError)} allowed (started s hb answer) (started_with s (start.Err Busy)))
+    → (pick {A = Answered (Result ⊤ StartError)} allowed (started s hb answer) (started_with s (result.Err Busy))).answer ≡ result.Ok tt
+    → Taken s hb answer allowed (pick {A = Answered (Result ⊤ StartError)} allowed (started s hb answer) (started_with s (result.Err Busy)))
 unfolding started is_started
 taken s hb answer allowed =
-    let P : Answered (Result ⊤ StartError) → Type 0 = λ (x : Answered (Result ⊤ StartError)). x.answer ≡ start.Ok tt → Taken s hb answer allowed x in
+    let P : Answered (Result ⊤ StartError) → Type 0 = λ (x : Answered (Result ⊤ StartError)). x.answer ≡ result.Ok tt → Taken s hb answer allowed x in
     cases P allowed
-    (λ ok. cases P (length_fits hb.length) (λ fits _. record { was = ok; fits = fits; left = refl }) (λ _ e. absurd (refused (start.Err BadLength) refl e)))
-    (λ _ e. absurd (refused (start.Err Busy) refl e))
+    (λ ok. cases P (length_fits hb.length) (λ fits _. record { was = ok; fits = fits; left = refl }) (λ _ e. absurd (refused (result.Err BadLength) refl e)))
+    (λ _ e. absurd (refused (result.Err Busy) refl e))
 
 pub some_length : (n : ℕ) → length_fits n ≡ true → 0 < n
 unfolding length_fits
@@ -183,7 +183,7 @@ module _ (s : DaliBitbangPhy) (r : Reached s) (hb : HalfBitBuffer) where
   idle_hears bus.Tx e = absurd (false≢true e)
   idle_hears bus.CollisionTx e = absurd (false≢true e)
 
-  module _ (ok : (start_tx_of s hb).answer ≡ start.Ok tt) where
+  module _ (ok : (start_tx_of s hb).answer ≡ result.Ok tt) where
     pub tx_taken : Taken s hb false (is_idle s.core.bus.bus_state) (start_tx_of s hb)
     unfolding start_tx_of
     tx_taken = taken s hb false (is_idle s.core.bus.bus_state) ok
@@ -200,7 +200,7 @@ module _ (s : DaliBitbangPhy) (r : Reached s) (hb : HalfBitBuffer) where
         let plain : 0 + ticks_in calls ≡ n = omega arith in
         rw plain at on
 
-  module _ (ok : (start_answer_of s hb).answer ≡ start.Ok tt) where
+  module _ (ok : (start_answer_of s hb).answer ≡ result.Ok tt) where
     pub answer_taken : Taken s hb true (hears s.core.bus.bus_state) (start_answer_of s hb)
     unfolding start_answer_of
     answer_taken = taken s hb true (hears s.core.bus.bus_state) ok

@@ -28,7 +28,7 @@ use Rattle.machine.specs.Starting.{loaded}
 use Rattle.fsm.specs.declared.DaliBitbangPhy.{DaliBitbangPhy}
 use Rattle.fsm.specs.declared.Answered.{Answered}
 use Rattle.fsm.specs.declared.StartError.{StartError}
-use Rattle.std.specs.declared.result.Result.TheVariants as start
+use Rattle.std.specs.declared.result.Result.TheVariants as result
 use Rattle.fsm.specs.declared.StartError.TheVariants.{Busy}
 use Rattle.fsm.specs.declared.TxPollResult.TheVariants.{Collision}
 use Rattle.fsm.specs.Station.{new_core, new_station, with_core}
@@ -91,7 +91,7 @@ tick_steady s high bus.Tx e h = rw (tick_tx s high e) (step_steady _ (runs_count
 tick_steady s high bus.CollisionTx e h = rw (tick_break s high e) (break_steady (runs_counted s.core high) high e)
 
 start_steady : (s : DaliBitbangPhy) (allowed : Bool) (hb : HalfBitBuffer) (answer : Bool) → Steady s.core
-    → Steady (pick {A = Answered (Result ⊤ StartError)} allowed (started s hb answer) (started_with s (start.Err Busy))).station.core
+    → Steady (pick {A = Answered (Result ⊤ StartError)} allowed (started s hb answer) (started_with s (result.Err Busy))).station.core
 unfolding started loaded_with loaded
 start_steady s allowed hb answer h =
     let P : Answered (Result ⊤ StartError) → Type 0 = λ (x : Answered (Result ⊤ StartError)). Steady x.station.core in

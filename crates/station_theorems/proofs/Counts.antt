@@ -25,7 +25,7 @@ use Rattle.machine.specs.Starting.{loaded}
 use Rattle.fsm.specs.declared.DaliBitbangPhy.{DaliBitbangPhy}
 use Rattle.fsm.specs.declared.Answered.{Answered}
 use Rattle.fsm.specs.declared.StartError.{StartError}
-use Rattle.std.specs.declared.result.Result.TheVariants as start
+use Rattle.std.specs.declared.result.Result.TheVariants as result
 use Rattle.fsm.specs.declared.StartError.TheVariants.{Busy}
 use Rattle.fsm.specs.Ticking.{tick_of}
 use Rattle.fsm.specs.Starting.{length_fits, started_with, loaded_with, started, start_tx_of, start_answer_of}
@@ -108,7 +108,7 @@ tick_runs s high bus.Tx e = rw (tick_tx s high e) (step_runs _ (runs_counted s.c
 tick_runs s high bus.CollisionTx e = rw (tick_break s high e) (break_runs (runs_counted s.core high) high)
 
 start_runs : (s : DaliBitbangPhy) (allowed : Bool) (hb : HalfBitBuffer) (answer : Bool)
-    → (pick {A = Answered (Result ⊤ StartError)} allowed (started s hb answer) (started_with s (start.Err Busy))).station.core.runs ≡ s.core.runs
+    → (pick {A = Answered (Result ⊤ StartError)} allowed (started s hb answer) (started_with s (result.Err Busy))).station.core.runs ≡ s.core.runs
 unfolding started loaded_with loaded
 start_runs s allowed hb answer =
     let P : Answered (Result ⊤ StartError) → Type 0 = λ (x : Answered (Result ⊤ StartError)). x.station.core.runs ≡ s.core.runs in
