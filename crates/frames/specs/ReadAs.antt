@@ -1,5 +1,5 @@
 -- Document 01, "The wave" and "Reading": when a station has heard a wave whole, and when its capture is read as a frame. Assumes nothing.
-use Rattle.std.specs.Prelude.{ℕ, ◌+◌, ◌*◌, ◌≤◌, Bool, true, false, List, [], ◌∷◌, ◌≡◌, pos, length, Option, Some, None}
+use Rattle.std.specs.Prelude.{ℕ, ◌+◌, ◌*◌, ◌≤◌, Bool, true, false, List, [], ◌∷◌, ◌≡◌, pos, length, Option, Some, None, is_some}
 use Rattle.lengths.specs.declared.BitLengths.{BitLengths}
 use Rattle.lengths.specs.Lengths.{holds, sniffed_lengths, backward_lengths}
 use Rattle.window.specs.declared.SampleWindow.{SampleWindow}
@@ -37,7 +37,7 @@ taken s = event_in (took_rx s).answer
 
 -- A take finds a completed capture.
 abbrev pub IsReady : DaliBitbangPhy → Type 0
-IsReady s = (took_rx s).answer ≡ Some (taken s)
+IsReady s = is_some (took_rx s).answer ≡ true
 
 -- the window of an event's capture
 abbrev pub window_in : RxCompletedEvent → SampleWindow

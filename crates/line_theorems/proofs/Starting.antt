@@ -1,10 +1,10 @@
 -- A start on a line, and what a station of a line then tells. Assumes nothing.
-use Rattle.std.specs.Prelude.{⊤, Result}
+use Rattle.std.specs.Prelude.{⊤, Result, Option, Some, None, is_some}
 use Prim.Native.Nat.{ℕ, ◌<◌, ◌≤◌}
 use native.Mathlib.Omega.{arith}
-use mathlib.Core.Bool.{Bool, true}
+use mathlib.Core.Bool.{Bool, true, false≢true}
 use mathlib.Core.List.{List}
-use mathlib.Core.Path.{◌≡◌, ◌∙◌, ap}
+use mathlib.Core.Path.{◌≡◌, refl, ◌∙◌, ap}
 use lib.ListN.{length}
 use lib.Seq.{get_or-set_same, get_or-set_other}
 use borrow.Author.Tests.{lt-ltb}
@@ -15,6 +15,7 @@ use Rattle.halfbits.specs.HalfBits.{buffer_of}
 use Rattle.halfbits.specs.Wave.{high}
 use Rattle.halfbits.specs.Encoding.{encoded_of}
 use Rattle.halfbits.proofs.Encodes.{few, as_many}
+use Rattle.event.specs.declared.RxCompletedEvent.{RxCompletedEvent}
 use Rattle.fsm.specs.declared.DaliBitbangPhy.{DaliBitbangPhy}
 use Rattle.std.specs.declared.result.Result.TheVariants as result
 use Rattle.fsm.specs.declared.TxPollResult.{TxPollResult}
@@ -28,7 +29,7 @@ use Rattle.bench_line.specs.Line.{stations_on, is_on, station_at, with_station}
 use Rattle.bench_line.specs.Calls.{answered_at}
 use Rattle.station_theorems.specs.Ticks.{IsIdle}
 use Rattle.frames.specs.Sends.{handed_out, Start, by_start_tx, by_start_answer, started_by, FitsBuffer}
-use Rattle.frames.specs.ReadAs.{IsReady, taken, ReadAs}
+use Rattle.frames.specs.ReadAs.{event_in, IsReady, taken, ReadAs}
 use Rattle.frames.proofs.SendingTicks as sending
 use Rattle.frames.proofs.Sending.{begins}
 use Rattle.line_theorems.specs.Reached.{line_after, ReachedLine, called}
@@ -37,13 +38,17 @@ use Rattle.line_theorems.specs.OnLine.{Sender, frame_in, buffer_in, IsSender, st
 use Rattle.line_theorems.proofs.Lines.{line_invariants}
 
 -- ---- what a station of the line tells
+handed_on : (answer : Option RxCompletedEvent) → is_some answer ≡ true → answer ≡ Some (event_in answer)
+handed_on None h = absurd (false≢true h)
+handed_on (Some event) h = refl
+
 module _ (l : BenchLine) (n : ℕ) (on : n < stations_on l) where
   is_on_lem : is_on l n ≡ true
   is_on_lem = lt-ltb n (stations_on l) on
 
   pub tells_frame : (frame : Frame) → IsReady (station_at l n) → ReadAs frame (taken (station_at l n)) → HoldsFrame frame n l
   unfolding answered_at
-  tells_frame frame ready read = (taken (station_at l n), rw (on_true is_on_lem) (ap result.Ok ready), read)
+  tells_frame frame ready read = (taken (station_at l n), rw (on_true is_on_lem) (ap result.Ok (handed_on _ ready)), read)
 
   pub tells_poll : (answer : TxPollResult) → (polled (station_at l n)).answer ≡ answer → Polls answer n l
   unfolding answered_at

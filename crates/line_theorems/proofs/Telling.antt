@@ -1,5 +1,5 @@
 -- What stations have to tell, and how long they keep it: through ticks, and through calls that start nothing. Assumes nothing.
-use Rattle.std.specs.Prelude.{Some}
+use Rattle.std.specs.Prelude.{is_some}
 use Prim.Native.Nat.{ℕ}
 use mathlib.Core.Bool.{Bool, true, false, false≢true, not}
 use mathlib.Core.List.{List}
@@ -249,7 +249,7 @@ module _ {frame : Frame} (s : DaliBitbangPhy) where
   unfolding took_rx
   same_event s' mark last h =
       let same : (took_rx s').answer ≡ (took_rx s).answer = rw (mark, last) refl in
-      record { ready = same ∙ h.ready ∙ ap (λ answer. Some (event_in answer)) (sym same); read = subst (λ answer. ReadAs frame (event_in answer)) (sym same) h.read }
+      record { ready = ap is_some same ∙ h.ready; read = subst (λ answer. ReadAs frame (event_in answer)) (sym same) h.read }
 
   event_ticks : IsIdle s → Event frame s → Event frame (tick_of s true)
   unfolding tick_of tick_in idle_tick silent fell runs_counted pick
