@@ -1,5 +1,5 @@
--- Places of a line, and one station more. Assumes nothing.
-use Prim.Native.Nat.{ℕ, zero, suc, ◌<◌, ◌≤◌}
+-- One station more. Assumes nothing.
+use Prim.Native.Nat.{ℕ, zero, suc, ◌<◌}
 use native.Mathlib.Omega.{arith}
 use mathlib.Core.Path.{◌≡◌, refl, ap}
 use mathlib.Core.Bool.{Bool, true, false}
@@ -9,23 +9,6 @@ use Rattle.laws.specs.Pick.{pick}
 use Rattle.fsm.specs.declared.DaliBitbangPhy.{DaliBitbangPhy}
 use Rattle.fsm.specs.Ticking.{tick_of}
 use Rattle.bench_line.specs.Line.{all_ticked, level_left}
-
--- ---- the places
-pub in_place : (ss : List DaliBitbangPhy) (i : ℕ) (d e : DaliBitbangPhy) → i < length ss → get_or ss i d ≡ get_or ss i e
-in_place [] i d e h = absurd (let none : ⊥ = omega arith in none)
-in_place (s ∷ ss) zero d e h = refl
-in_place (s ∷ ss) (suc i) d e h = in_place ss i d e (omega arith)
-
--- past the last there is none, and nothing can be put there
-pub no_place : (ss : List DaliBitbangPhy) (i : ℕ) (d : DaliBitbangPhy) → length ss ≤ i → get_or ss i d ≡ d
-no_place [] i d h = refl
-no_place (s ∷ ss) zero d h = absurd (let none : ⊥ = omega arith in none)
-no_place (s ∷ ss) (suc i) d h = no_place ss i d (omega arith)
-
-pub put_nowhere : (ss : List DaliBitbangPhy) (i : ℕ) (s : DaliBitbangPhy) → length ss ≤ i → set ss i s ≡ ss
-put_nowhere [] i s h = refl
-put_nowhere (x ∷ ss) zero s h = absurd (let none : ⊥ = omega arith in none)
-put_nowhere (x ∷ ss) (suc i) s h = ap (λ (r : List DaliBitbangPhy). x ∷ r) (put_nowhere ss i s (omega arith))
 
 -- ---- one station more that has ticked
 pub tick_next : (n : ℕ) (level : Bool) (d : DaliBitbangPhy) (ss : List DaliBitbangPhy)

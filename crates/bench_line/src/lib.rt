@@ -1,9 +1,8 @@
 // The bench line: one to four stations on one line, numbered from 0. On each tick all stations sample the level that the tick before left.
 #![tactic(auto)]
 
-ghost use Rattle.std.specs.Prelude.{◌≡◌, ◌≤◌, get_or, set};
+ghost use Rattle.std.specs.Prelude.{◌≡◌, ◌≤◌};
 ghost use Rattle.laws.specs.Pick.{pick};
-ghost use Rattle.fsm.specs.Station.{new_station};
 ghost use Rattle.fsm.specs.Starting.{length_fits, start_tx_of, start_answer_of};
 ghost use Rattle.machine.specs.States.{is_idle, hears};
 ghost use Rattle.fsm.specs.Refusals.{start_number};
@@ -11,13 +10,11 @@ ghost use Rattle.fsm.specs.Polling.{polled};
 ghost use Rattle.fsm.specs.Calls.{with_policy, took_idle, acknowledged, took_rx};
 ghost use Rattle.bench_line.specs.Constants.{public_constants};
 ghost use Rattle.bench_line.specs.Line.{stations_on, is_on, station_at, with_station, new_line_of, all_ticked, level_left, line_ticked};
-ghost use Rattle.bench_line.specs.Refusals.{new_number, is_count, done_number, start_number_of, poll_number, told_number};
-ghost use Rattle.bench_line.specs.Calls.{made_line, changed_at, started_at, polled_at, took_idle_at, took_rx_at, seen_at};
+ghost use Rattle.bench_line.specs.Refusals.{is_count, line_error_number, line_number, line_start_number};
+ghost use Rattle.bench_line.specs.Calls.{made_line, done, answered_at, seen_at};
 
 use event::RxCompletedEvent;
-use fsm::{
-    CollisionPolicy, DaliBitbangPhy, Polled, StartAnswer, Started, TookIdle, TookRx, TxPollResult,
-};
+use fsm::{Answered, CollisionPolicy, DaliBitbangPhy, StartError, TxPollResult};
 use halfbits::HalfBitBuffer;
 
 pub const MAX_STATIONS: usize = 4;
@@ -43,127 +40,41 @@ pub struct BenchLine {
     level: bool,
 }
 
-// Most calls name a station by its number. If the line has no station of that number, the call answers `NoStation`, refusal 9. Otherwise it hands on
-// the station's own answer, or `Done` if the station gives none.
-
-#[derive(Clone, Copy)]
-pub enum LineDone {
-    Done = 0,
+// Why a line refuses: it has no station of the number that a call names, or no line has so many stations.
+#[derive(Clone, Copy, PartialEq, Eq)]
+pub enum LineError {
     NoStation = 9,
-}
-
-#[derive(Clone, Copy)]
-pub enum LineStart {
-    Told(StartAnswer),
-    NoStation,
-}
-
-#[derive(Clone, Copy)]
-pub enum LinePoll {
-    Told(TxPollResult),
-    NoStation,
-}
-
-#[derive(Clone, Copy)]
-pub enum LineTold {
-    Told(bool),
-    NoStation,
-}
-
-// Refusal 10: the count is outside 1 to 4.
-#[derive(Clone, Copy)]
-pub enum LineNew {
-    Made = 0,
     BadCount = 10,
 }
 
-// Nobody calls these two: their promises say what number each case has.
-
-fn line_done_number(answer: LineDone) -> u8
-    ensures { result ≡ done_number answer }
+// Nobody calls this: its promise says what number each case has.
+fn line_error_number(error: LineError) -> u8
+    ensures { result ≡ line_error_number error }
 {
-    match answer {
-        LineDone::Done => LineDone::Done as u8,
-        LineDone::NoStation => LineDone::NoStation as u8,
-    }
+    error as u8
 }
 
-fn line_new_number(answer: LineNew) -> u8
-    ensures { result ≡ new_number answer }
-{
-    match answer {
-        LineNew::Made => LineNew::Made as u8,
-        LineNew::BadCount => LineNew::BadCount as u8,
-    }
-}
-
-// A call that changes a line hands the line back beside its answer.
-
-// After a refused count the line has no station, so it refuses every call that names one.
+// A call that changes a station of the line hands the line back beside the station's own answer.
 #[derive(Clone, Copy)]
-pub struct MadeLine {
+pub struct LineAnswered<T> {
     pub line: BenchLine,
-    pub answer: LineNew,
-}
-
-#[derive(Clone, Copy)]
-pub struct LineChanged {
-    pub line: BenchLine,
-    pub answer: LineDone,
-}
-
-#[derive(Clone, Copy)]
-pub struct LineStarted {
-    pub line: BenchLine,
-    pub answer: LineStart,
-}
-
-#[derive(Clone, Copy)]
-pub struct LinePolled {
-    pub line: BenchLine,
-    pub answer: LinePoll,
-}
-
-#[derive(Clone, Copy)]
-pub struct LineTookIdle {
-    pub line: BenchLine,
-    pub answer: LineTold,
-}
-
-// If the station had no capture to take, or the line has no such station, the event is a new one.
-#[derive(Clone, Copy)]
-pub struct LineTookRx {
-    pub line: BenchLine,
-    pub answer: LineTold,
-    pub event: RxCompletedEvent,
-}
-
-// A copy of a station, for the calls that change nothing. If the line has no such station, it is a new one.
-#[derive(Clone, Copy)]
-pub struct SeenStation {
-    pub station: DaliBitbangPhy,
-    pub answer: LineDone,
+    pub answer: Result<T, LineError>,
 }
 
 // The first `count` stations sample the same level.
+#[tactic(auto, unfolding(crate::specs::Line::all_ticked))]
 fn tick_all(
-    stations: [DaliBitbangPhy; MAX_STATIONS],
+    mut stations: [DaliBitbangPhy; MAX_STATIONS],
     count: usize,
     level: bool,
 ) -> [DaliBitbangPhy; MAX_STATIONS]
     requires { count ≤ 4 }
     ensures { result ≡ all_ticked count level stations }
 {
-    let mut all = stations;
-    let mut i: usize = 0;
-    while i < count {
-        let station = all[i];
-        let ticked = station.tick(level);
-        let next = ticked.station;
-        all[i] = next;
-        i += 1;
+    for i in 0..count {
+        stations[i] = stations[i].tick(level).station;
     }
-    all
+    stations
 }
 
 // One of the first `count` stations that drives low is enough to leave the line low.
@@ -171,76 +82,39 @@ fn level_left(stations: [DaliBitbangPhy; MAX_STATIONS], count: usize) -> bool
     requires { count ≤ 4 }
     ensures { result ≡ level_left count stations }
 {
-    let mut i: usize = 0;
-    while i < count {
-        let station = stations[i];
-        if station.driven_high() {
-            i += 1;
-        } else {
+    for i in 0..count {
+        if !stations[i].driven_high() {
             return false;
         }
     }
     true
 }
 
+#[tactic(auto, unfolding(crate::specs::Refusals::is_count, laws::specs::Pick::pick))]
 fn is_count(count: u8) -> bool
     ensures { result ≡ is_count count }
 {
-    if count == 0 {
-        return false;
-    }
-    (count as usize) <= MAX_STATIONS
-}
-
-// Past the four places `place` reads a new station, and `placed` changes nothing.
-
-fn place(stations: [DaliBitbangPhy; MAX_STATIONS], number: usize) -> DaliBitbangPhy
-    ensures { result ≡ get_or stations number new_station }
-{
-    if number < MAX_STATIONS {
-        return stations[number];
-    }
-    DaliBitbangPhy::new()
-}
-
-fn placed(
-    stations: [DaliBitbangPhy; MAX_STATIONS],
-    number: usize,
-    station: DaliBitbangPhy,
-) -> [DaliBitbangPhy; MAX_STATIONS]
-    ensures { result ≡ set stations number station }
-{
-    if number < MAX_STATIONS {
-        let mut all = stations;
-        all[number] = station;
-        return all;
-    }
-    stations
+    matches!(count, 1..=4)
 }
 
 impl BenchLine {
-    pub fn new(count: u8) -> MadeLine
+    #[tactic(auto, unfolding(crate::specs::Calls::made_line, crate::specs::Refusals::line_number, laws::specs::Pick::pick))]
+    pub fn new(count: u8) -> Result<BenchLine, LineError>
         ensures value { result ≡ made_line count }
-        ensures answer_value { new_number result.answer ≡ pick (is_count count) 0 10 }
+        ensures answer_value { line_number result ≡ pick (is_count count) 0 10 }
     {
-        if is_count(count) {
-            return MadeLine {
-                line: BenchLine::of(count),
-                answer: LineNew::Made,
-            };
+        if !is_count(count) {
+            return Err(LineError::BadCount);
         }
-        MadeLine {
-            line: BenchLine::of(0),
-            answer: LineNew::BadCount,
-        }
+        Ok(BenchLine::of(count))
     }
 
+    #[tactic(auto, unfolding(crate::specs::Line::new_line_of))]
     fn of(count: u8) -> BenchLine
         ensures { result ≡ new_line_of count }
     {
-        let station = DaliBitbangPhy::new();
         BenchLine {
-            stations: [station; MAX_STATIONS],
+            stations: [DaliBitbangPhy::new(); MAX_STATIONS],
             count,
             level: true,
         }
@@ -250,10 +124,7 @@ impl BenchLine {
     fn stations_on(self) -> usize
         ensures { result ≡ stations_on self }
     {
-        if (self.count as usize) < MAX_STATIONS {
-            return self.count as usize;
-        }
-        MAX_STATIONS
+        MAX_STATIONS.min(self.count as usize)
     }
 
     fn has(self, number: u8) -> bool
@@ -262,23 +133,24 @@ impl BenchLine {
         (number as usize) < self.stations_on()
     }
 
+    // Past the four places `at` reads a new station, and `with` changes nothing.
+
     fn at(self, number: u8) -> DaliBitbangPhy
         ensures { result ≡ station_at self number }
     {
-        let stations = self.stations;
-        place(stations, number as usize)
+        if (number as usize) < MAX_STATIONS {
+            return self.stations[number as usize];
+        }
+        DaliBitbangPhy::new()
     }
 
-    fn with(self, number: u8, station: DaliBitbangPhy) -> BenchLine
+    fn with(mut self, number: u8, station: DaliBitbangPhy) -> BenchLine
         ensures { result ≡ with_station self number station }
     {
-        let before = self.stations;
-        let stations = placed(before, number as usize, station);
-        BenchLine {
-            stations,
-            count: self.count,
-            level: self.level,
+        if (number as usize) < MAX_STATIONS {
+            self.stations[number as usize] = station;
         }
+        self
     }
 
     // The level that the last tick left. It is high before the first tick.
@@ -288,176 +160,119 @@ impl BenchLine {
         self.level
     }
 
+    #[tactic(auto, unfolding(crate::specs::Line::line_ticked))]
     pub fn tick(self) -> BenchLine
         ensures { result ≡ line_ticked self }
     {
         let count = self.stations_on();
-        let before = self.stations;
-        let stations = tick_all(before, count, self.level);
-        let level = level_left(stations, count);
+        let stations = tick_all(self.stations, count, self.level);
         BenchLine {
             stations,
-            count: self.count,
-            level,
+            level: level_left(stations, count),
+            ..self
         }
     }
 
-    pub fn station(self, number: u8) -> SeenStation
+    // A copy of a station, for the calls that change nothing.
+    #[tactic(auto, unfolding(crate::specs::Calls::seen_at, crate::specs::Refusals::line_number, laws::specs::Pick::pick))]
+    pub fn station(self, number: u8) -> Result<DaliBitbangPhy, LineError>
         ensures value { result ≡ seen_at self number }
-        ensures answer_value { done_number result.answer ≡ pick (is_on self number) 0 9 }
+        ensures answer_value { line_number result ≡ pick (is_on self number) 0 9 }
     {
-        if self.has(number) {
-            return SeenStation {
-                station: self.at(number),
-                answer: LineDone::Done,
+        if !self.has(number) {
+            return Err(LineError::NoStation);
+        }
+        Ok(self.at(number))
+    }
+
+    pub fn set_collision_policy(self, number: u8, p: CollisionPolicy) -> LineAnswered<()>
+        ensures value { result ≡ answered_at self number (done (with_policy (station_at self number) p)) }
+        ensures answer_value { line_number result.answer ≡ pick (is_on self number) 0 9 }
+    {
+        let station = self.at(number).set_collision_policy(p);
+        self.after(
+            number,
+            Answered {
+                station,
+                answer: (),
+            },
+        )
+    }
+
+    #[tactic(auto, using(crate::proofs::Numbers::started_number))]
+    pub fn start_tx(
+        self,
+        number: u8,
+        halfbits: HalfBitBuffer,
+    ) -> LineAnswered<Result<(), StartError>>
+        ensures value { result ≡ answered_at self number (start_tx_of (station_at self number) halfbits) }
+        ensures answer_value { line_start_number result.answer ≡ pick (is_on self number) (start_number (is_idle (station_at self number).core.bus.bus_state) (length_fits halfbits.length)) 9 }
+    {
+        self.after(number, self.at(number).start_tx(halfbits))
+    }
+
+    #[tactic(auto, using(crate::proofs::Numbers::started_number))]
+    pub fn start_answer(
+        self,
+        number: u8,
+        halfbits: HalfBitBuffer,
+    ) -> LineAnswered<Result<(), StartError>>
+        ensures value { result ≡ answered_at self number (start_answer_of (station_at self number) halfbits) }
+        ensures answer_value { line_start_number result.answer ≡ pick (is_on self number) (start_number (hears (station_at self number).core.bus.bus_state) (length_fits halfbits.length)) 9 }
+    {
+        self.after(number, self.at(number).start_answer(halfbits))
+    }
+
+    pub fn poll_tx_state(self, number: u8) -> LineAnswered<TxPollResult>
+        ensures value { result ≡ answered_at self number (polled (station_at self number)) }
+        ensures answer_value { line_number result.answer ≡ pick (is_on self number) 0 9 }
+    {
+        self.after(number, self.at(number).poll_tx_state())
+    }
+
+    pub fn take_idle_after_break(self, number: u8) -> LineAnswered<bool>
+        ensures value { result ≡ answered_at self number (took_idle (station_at self number)) }
+        ensures answer_value { line_number result.answer ≡ pick (is_on self number) 0 9 }
+    {
+        self.after(number, self.at(number).take_idle_after_break())
+    }
+
+    pub fn acknowledge_rx_frame(self, number: u8) -> LineAnswered<()>
+        ensures value { result ≡ answered_at self number (done (acknowledged (station_at self number))) }
+        ensures answer_value { line_number result.answer ≡ pick (is_on self number) 0 9 }
+    {
+        let station = self.at(number).acknowledge_rx_frame();
+        self.after(
+            number,
+            Answered {
+                station,
+                answer: (),
+            },
+        )
+    }
+
+    pub fn take_completed_rx_event(self, number: u8) -> LineAnswered<Option<RxCompletedEvent>>
+        ensures value { result ≡ answered_at self number (took_rx (station_at self number)) }
+        ensures answer_value { line_number result.answer ≡ pick (is_on self number) 0 9 }
+    {
+        self.after(number, self.at(number).take_completed_rx_event())
+    }
+
+    // Puts the station that a call handed back in its place, and hands on its answer. If the number names no station of the line, nothing changes.
+    #[tactic(auto, unfolding(crate::specs::Calls::answered_at, crate::specs::Refusals::line_number, laws::specs::Pick::pick))]
+    fn after<T: Copy>(self, number: u8, called: Answered<T>) -> LineAnswered<T>
+        ensures value { result ≡ answered_at self number called }
+        ensures answer_value { line_number result.answer ≡ pick (is_on self number) 0 9 }
+    {
+        if !self.has(number) {
+            return LineAnswered {
+                line: self,
+                answer: Err(LineError::NoStation),
             };
         }
-        SeenStation {
-            station: DaliBitbangPhy::new(),
-            answer: LineDone::NoStation,
-        }
-    }
-
-    pub fn set_collision_policy(self, number: u8, p: CollisionPolicy) -> LineChanged
-        ensures value { result ≡ changed_at self number (with_policy (station_at self number) p) }
-        ensures answer_value { done_number result.answer ≡ pick (is_on self number) 0 9 }
-    {
-        let station = self.at(number);
-        self.change(number, station.set_collision_policy(p))
-    }
-
-    pub fn start_tx(self, number: u8, halfbits: HalfBitBuffer) -> LineStarted
-        ensures value { result ≡ started_at self number (start_tx_of (station_at self number) halfbits) }
-        ensures answer_value { start_number_of result.answer ≡ pick (is_on self number) (start_number (is_idle (station_at self number).core.bus.bus_state) (length_fits halfbits.length)) 9 }
-    {
-        let station = self.at(number);
-        self.start(number, station.start_tx(halfbits))
-    }
-
-    pub fn start_answer(self, number: u8, halfbits: HalfBitBuffer) -> LineStarted
-        ensures value { result ≡ started_at self number (start_answer_of (station_at self number) halfbits) }
-        ensures answer_value { start_number_of result.answer ≡ pick (is_on self number) (start_number (hears (station_at self number).core.bus.bus_state) (length_fits halfbits.length)) 9 }
-    {
-        let station = self.at(number);
-        self.start(number, station.start_answer(halfbits))
-    }
-
-    pub fn poll_tx_state(self, number: u8) -> LinePolled
-        ensures value { result ≡ polled_at self number (polled (station_at self number)) }
-        ensures answer_value { poll_number result.answer ≡ pick (is_on self number) 0 9 }
-    {
-        let station = self.at(number);
-        self.poll(number, station.poll_tx_state())
-    }
-
-    pub fn take_idle_after_break(self, number: u8) -> LineTookIdle
-        ensures value { result ≡ took_idle_at self number (took_idle (station_at self number)) }
-        ensures answer_value { told_number result.answer ≡ pick (is_on self number) 0 9 }
-    {
-        let station = self.at(number);
-        self.take_idle(number, station.take_idle_after_break())
-    }
-
-    pub fn acknowledge_rx_frame(self, number: u8) -> LineChanged
-        ensures value { result ≡ changed_at self number (acknowledged (station_at self number)) }
-        ensures answer_value { done_number result.answer ≡ pick (is_on self number) 0 9 }
-    {
-        let station = self.at(number);
-        self.change(number, station.acknowledge_rx_frame())
-    }
-
-    pub fn take_completed_rx_event(self, number: u8) -> LineTookRx
-        ensures value { result ≡ took_rx_at self number (took_rx (station_at self number)) }
-        ensures answer_value { told_number result.answer ≡ pick (is_on self number) 0 9 }
-    {
-        let station = self.at(number);
-        self.take_rx(number, station.take_completed_rx_event())
-    }
-
-    // Puts the station that a call handed back in its place. If the number names no station of the line, nothing changes.
-    fn change(self, number: u8, station: DaliBitbangPhy) -> LineChanged
-        ensures { result ≡ changed_at self number station }
-    {
-        if self.has(number) {
-            return LineChanged {
-                line: self.with(number, station),
-                answer: LineDone::Done,
-            };
-        }
-        LineChanged {
-            line: self,
-            answer: LineDone::NoStation,
-        }
-    }
-
-    // The same, and hands on the station's answer.
-
-    fn start(self, number: u8, started: Started) -> LineStarted
-        ensures { result ≡ started_at self number started }
-    {
-        if self.has(number) {
-            let station = started.station;
-            let answer = started.answer;
-            return LineStarted {
-                line: self.with(number, station),
-                answer: LineStart::Told(answer),
-            };
-        }
-        LineStarted {
-            line: self,
-            answer: LineStart::NoStation,
-        }
-    }
-
-    fn poll(self, number: u8, polled: Polled) -> LinePolled
-        ensures { result ≡ polled_at self number polled }
-    {
-        if self.has(number) {
-            let station = polled.station;
-            let answer = polled.answer;
-            return LinePolled {
-                line: self.with(number, station),
-                answer: LinePoll::Told(answer),
-            };
-        }
-        LinePolled {
-            line: self,
-            answer: LinePoll::NoStation,
-        }
-    }
-
-    fn take_idle(self, number: u8, took: TookIdle) -> LineTookIdle
-        ensures { result ≡ took_idle_at self number took }
-    {
-        if self.has(number) {
-            let station = took.station;
-            return LineTookIdle {
-                line: self.with(number, station),
-                answer: LineTold::Told(took.idle),
-            };
-        }
-        LineTookIdle {
-            line: self,
-            answer: LineTold::NoStation,
-        }
-    }
-
-    fn take_rx(self, number: u8, took: TookRx) -> LineTookRx
-        ensures { result ≡ took_rx_at self number took }
-    {
-        if self.has(number) {
-            let station = took.station;
-            let event = took.event;
-            return LineTookRx {
-                line: self.with(number, station),
-                answer: LineTold::Told(took.completed),
-                event,
-            };
-        }
-        LineTookRx {
-            line: self,
-            answer: LineTold::NoStation,
-            event: RxCompletedEvent::new(),
+        LineAnswered {
+            line: self.with(number, called.station),
+            answer: Ok(called.answer),
         }
     }
 }

@@ -67,7 +67,7 @@ waits zero = (refl, refl)
 waits (suc n) = waits_on (after_levels (suc n) (λ tick. get_or (low ∷ []) tick high) new_station) (waits n)
 
 none_of_one_low : SaysRow (captures_nothing (replicate 1 low))
-unfolding SaysRow took_rx is_completed
+unfolding SaysRow took_rx is_completed pick
 none_of_one_low highs = let e : 1 + highs ≡ suc highs = omega arith in rw (e, (waits highs).1)
 
 -- ---- a lone start bit

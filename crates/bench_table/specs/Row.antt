@@ -1,14 +1,12 @@
 -- Document 01, "Bench table": the kinds of rows, and what a row of each kind says. Each kind speaks of definitions that public promises cite, and so
 -- of what the proved calls return. Assumes nothing.
-use Rattle.std.specs.Prelude.{ℕ, ◌+◌, Bool, true, false, List, ◌++◌, ◌≡◌, pos, length, get_or, take}
+use Rattle.std.specs.Prelude.{ℕ, ◌+◌, Bool, true, false, List, ◌++◌, ◌≡◌, pos, length, get_or, take, None, Ok}
 use Rattle.weight.specs.Weight.{weight_of}
 use Rattle.lengths.specs.Lengths.{holds, set_of}
-use Rattle.halfbits.specs.declared.EncodeAnswer.TheVariants.{Length}
 use Rattle.halfbits.specs.Wave.{high}
 use Rattle.halfbits.specs.Encoding.{frame_of, encoded_of}
 use Rattle.window.specs.Window.{window_of}
 use Rattle.window.specs.Phase.{phase_of}
-use Rattle.search.specs.declared.Found.TheVariants.{Nothing}
 use Rattle.search.specs.Search.{new_of, run_of}
 use Rattle.event.specs.declared.RxCompletedEvent.{RxCompletedEvent}
 use Rattle.event.specs.Event.{event_of}
@@ -66,18 +64,18 @@ SaysRow (lengths_hold lengths one) = holds (set_of lengths) one ≡ true
 SaysRow (lengths_hold_nothing lengths) = (any : ℕ) → holds (set_of lengths) any ≡ false
 SaysRow (encodes byte store half_bits) =
     (second third : ℕ)
-    → encoded_of 8 (frame_of 8 byte second third) ≡ record { buffer = record { «data» = store; length = half_bits }; answer = Length half_bits }
+    → encoded_of 8 (frame_of 8 byte second third) ≡ Ok (record { «data» = store; length = half_bits })
 SaysRow (captures levels count bytes) =
     let s = hearing levels 16 in
     IsReady s × ((taken s).sample_count ≡ count) × (take count (taken s).samples ≡ bytes)
 SaysRow (scores levels score) = (sniffed_of (found_in (taken (hearing levels 16)))).score ≡ score
 SaysRow (captures_nothing levels) =
-    (highs : ℕ) → (took_rx (hearing levels highs)).completed ≡ false
+    (highs : ℕ) → (took_rx (hearing levels highs)).answer ≡ None
 SaysRow (reads_at_phase_0 capture bits score) =
     (behind : List ℕ) (most : ℕ)
     → let d = phase_of (window_of (capture ++ behind) (length capture)) most (pos 0) in (d.bit_len ≡ bits) × (d.score ≡ score)
 SaysRow (finds_nothing capture lengths steps) =
-    (behind : List ℕ) → run_of (new_of (set_of lengths)) (window_of (capture ++ behind) (length capture)) ≡ record { found = Nothing; steps = steps }
+    (behind : List ℕ) → run_of (new_of (set_of lengths)) (window_of (capture ++ behind) (length capture)) ≡ record { found = None; steps = steps }
 SaysRow (runs_low capture ticks held) =
     (behind : List ℕ) → (low_run_of (event_with capture behind) ≡ ticks) × (held_of (event_with capture behind) ≡ held)
 -- (a sender samples fourteen ticks after the tick that sees the clash)

@@ -2,8 +2,7 @@
 // with the file stdout. All rows are proved too, these included (specs/Table.antt).
 #![tactic(auto)]
 
-use bench_line::{BenchLine, LineTold};
-use event::RxCompletedEvent;
+use bench_line::BenchLine;
 use fsm::{BusState, DaliBitbangPhy};
 use halfbits::HalfBitBuffer;
 
@@ -17,130 +16,88 @@ struct LineAt {
     tick: u8,
 }
 
-// A text that can't be written is passed over.
-fn say(rt: &impl Print, text: &[u8]) {
-    let _ = rt.write_all(text);
-}
-
-fn say_number(rt: &impl Print, number: u64) {
-    let _ = print!(rt; "{number}");
-}
-
+// What can't be written is passed over, here as everywhere below.
 fn say_level(rt: &impl Print, high: bool) {
-    if high {
-        say(rt, b"high");
-    } else {
-        say(rt, b"low");
-    }
+    let _ = print!(rt; "{}", if high { "high" } else { "low" });
 }
 
 // ---- 600 low ticks and sixteen high
 
-fn ticked(station: DaliBitbangPhy, level: bool, ticks: u16) -> DaliBitbangPhy {
-    let mut now = station;
-    let mut left = ticks;
-    while 0 < left {
-        let ticked = now.tick(level);
-        now = ticked.station;
-        left -= 1;
+fn ticked(mut station: DaliBitbangPhy, level: bool, ticks: u16) -> DaliBitbangPhy {
+    for _ in 0..ticks {
+        station = station.tick(level).station;
     }
-    now
-}
-
-fn say_samples(rt: &impl Print, samples: [u8; RxCompletedEvent::MAX_SAMPLES]) {
-    let mut at = 0;
-    while at < RxCompletedEvent::MAX_SAMPLES {
-        let sample = samples[at];
-        let _ = print!(rt; "{sample:02x}");
-        at += 1;
-    }
+    station
 }
 
 fn say_long_low(rt: &impl Print) {
     let low = ticked(DaliBitbangPhy::new(), false, 600);
     let high = ticked(low, true, 16);
-    let took = high.take_completed_rx_event();
-    let event = took.event;
-    let samples = event.samples;
-    say(rt, b"600 low ticks and 16 high: ");
-    if took.completed {
-        say(rt, b"count ");
-        say_number(rt, event.sample_count as u64);
-        say(rt, b", samples ");
-        say_samples(rt, samples);
-    } else {
-        say(rt, b"no capture");
+    let _ = print!(rt; "600 low ticks and 16 high: ");
+    let Some(event) = high.take_completed_rx_event().answer else {
+        let _ = println!(rt; "no capture");
+        return;
+    };
+    let _ = print!(rt; "count {}, samples ", event.sample_count);
+    for sample in &event.samples {
+        let _ = print!(rt; "{sample:02x}");
     }
-    say(rt, b"\n");
+    let _ = println!(rt; "");
 }
 
 // ---- 16 bits of 0000 against 8000
 
 fn is_breaking(line: BenchLine, number: u8) -> bool {
-    let seen = line.station(number);
-    let station = seen.station;
-    match station.bus_state() {
-        BusState::Idle => false,
-        BusState::Rx => false,
-        BusState::Tx => false,
-        BusState::CollisionTx => true,
-    }
+    matches!(line.station(number), Ok(station) if station.bus_state() == BusState::CollisionTx)
 }
 
 // Ticks the line until the station is in its break, or until it no longer is, as `breaking` says.
 fn until(at: LineAt, number: u8, breaking: bool) -> LineAt {
     let mut line = at.line;
-    let mut tick = at.tick;
-    while tick < LAST_TICK {
+    for tick in at.tick..LAST_TICK {
         if is_breaking(line, number) == breaking {
-            break;
+            return LineAt { line, tick };
         }
         line = line.tick();
-        tick += 1;
     }
-    LineAt { line, tick }
+    LineAt {
+        line,
+        tick: LAST_TICK,
+    }
 }
 
 // A station that sampled high found the line idle.
-fn say_found(rt: &impl Print, idle: LineTold) {
-    match idle {
-        LineTold::Told(high) => say_level(rt, high),
-        LineTold::NoStation => say(rt, b"nothing"),
-    }
-}
-
 fn say_break(rt: &impl Print, line: BenchLine, number: u8) {
     let clash = until(LineAt { line, tick: 0 }, number, true);
     let sample = until(clash, number, false);
-    let sampled = sample.line;
-    let took = sampled.take_idle_after_break(number);
-    let idle = took.answer;
-    say(rt, b"station ");
-    say_number(rt, number as u64);
-    say(rt, b" sees the clash at tick ");
-    say_number(rt, clash.tick as u64);
-    say(rt, b" and samples ");
-    say_found(rt, idle);
-    say(rt, b" at ");
-    say_number(rt, sample.tick as u64);
+    let _ = print!(rt;
+        "station {number} sees the clash at tick {} and samples ",
+        clash.tick
+    );
+    match sample.line.take_idle_after_break(number).answer {
+        Ok(high) => say_level(rt, high),
+        Err(_) => {
+            let _ = print!(rt; "nothing");
+        }
+    }
+    let _ = print!(rt; " at {}", sample.tick);
+}
+
+#[tactic(auto, unfolding(bench_line::specs::Calls::made_line, bench_line::specs::Refusals::is_count, halfbits::specs::Encoding::encoded_of, halfbits::specs::Encoding::is_bit_count, laws::specs::Pick::pick))]
+fn both_started() -> BenchLine {
+    let zeros = HalfBitBuffer::encode(16, 0x00, 0x00, 0).unwrap();
+    let eighty = HalfBitBuffer::encode(16, 0x80, 0x00, 0).unwrap();
+    let line = BenchLine::new(2).unwrap();
+    line.start_tx(0, zeros).line.start_tx(1, eighty).line
 }
 
 fn say_clash(rt: &impl Print) {
-    let made = BenchLine::new(2);
-    let line = made.line;
-    let zeros = HalfBitBuffer::encode(16, 0x00, 0x00, 0);
-    let eighty = HalfBitBuffer::encode(16, 0x80, 0x00, 0);
-    let first = zeros.buffer;
-    let second = eighty.buffer;
-    let started = line.start_tx(0, first);
-    let one = started.line;
-    let again = one.start_tx(1, second);
-    let both = again.line;
-    say(rt, b"16 bits of 0000 against 8000: ");
-    say_break(rt, both, 0);
-    say(rt, b"; ");
-    say_break(rt, both, 1);
-    say(rt, b"\n");
+    let line = both_started();
+    let _ = print!(rt; "16 bits of 0000 against 8000: ");
+    say_break(rt, line, 0);
+    let _ = print!(rt; "; ");
+    say_break(rt, line, 1);
+    let _ = println!(rt; "");
 }
 
 fn main(rt: HostRuntime) {

@@ -1,114 +1,117 @@
-// The call protocol of document 04 over the proved functions: one command a line on standard input, one answer a line on standard output. Only safety
-// is proved of this program. Here bytes are only moved: `operands` reads a line, `commands` answers it, and `reply` writes the answer.
+// The call protocol over the proved functions: one command a line on standard input, one answer a line on standard output. Only safety is proved of
+// this program. `commands` reads a line as a command, field by field by `operands`; `kept` carries it out, and `reply` writes the answer.
 #![tactic(auto)]
 
+mod bytes;
 mod commands;
+mod kept;
 mod operands;
 mod reply;
 
-use crate::commands::Kept;
-use crate::reply::{ANSWERS_ROOM, Answers};
-use lines::LINE_ROOM;
-use text::fields;
+use crate::kept::Kept;
+use lines::Lines;
+use std::fmt;
+use std::fmt::Write;
+use text::{fields, writing};
 
-type Line = [u8; LINE_ROOM];
+const CHUNK_ROOM: usize = 65_536;
+
+const ANSWERS_ROOM: usize = 65_536;
 
 // Past this place the answers are written out, so that the next always has room. No answer has more than 2,100 bytes.
 const NEARLY_FULL: usize = ANSWERS_ROOM - 4_096;
 
+// Answers wait here until they are written.
+#[derive(Drop)]
+struct Answers {
+    text: [u8; ANSWERS_ROOM],
+    len: usize,
+}
+
+impl fmt::Write for Answers {
+    fn write_str(&mut self, s: &str) -> fmt::Result {
+        self.len = writing::put_text(&mut self.text, self.len, s.as_bytes());
+        Ok(())
+    }
+}
+
 #[derive(Drop)]
 struct Session {
-    reads: u64,
     kept: Kept,
-    // How many bytes the unfinished line has, and how many bytes of answers wait to be written.
-    len: usize,
-    at: usize,
+    lines: Lines,
+    answers: Answers,
     // Nothing has failed, and the input has not ended.
     open: bool,
 }
 
-// Answers a line that has ended.
-fn end_line(rt: HostRuntime, mut session: Session, line: &Line, out: &mut Answers) -> Session {
-    let answer = commands::answered(fields::first(line, session.len), session.kept);
-    session.kept = answer.kept;
-    let end = reply::put(out, session.at, answer);
-    session.at = text::writing::put_byte(out, end, b'\n');
-    session.len = 0;
-    if NEARLY_FULL < session.at {
-        return flush(rt, session, out);
-    }
-    session
-}
-
-// Writes the answers that wait, unless a write has failed.
-fn flush(rt: HostRuntime, mut session: Session, out: &Answers) -> Session {
-    if session.open && !stdio::write_text(rt, fields::first(out, session.at)) {
-        stdio::complain(rt, b"error: standard output can't be written\n");
-        session.open = false;
-    }
-    session.at = 0;
-    session
-}
-
-// Answers every line that ends in a chunk. Each turn of the loop takes at least one byte.
-fn take_in(
-    rt: HostRuntime,
-    mut session: Session,
-    chunk: &[u8],
-    line: &mut Line,
-    out: &mut Answers,
-) -> Session {
-    let mut from = 0;
-    while from < chunk.len() {
-        let taken = lines::take(line, session.len, chunk, from);
-        session.len = taken.len;
-        if taken.ended {
-            session = end_line(rt, session, line, out);
+impl Session {
+    // Answers a line that has ended.
+    fn end_line(&mut self, rt: HostRuntime) {
+        let reply = self.kept.answer(self.lines.line());
+        self.lines.len = 0;
+        let _ = writeln!(self.answers, "{reply}");
+        if NEARLY_FULL < self.answers.len {
+            self.flush(rt);
         }
-        if taken.next <= from {
-            return session;
-        }
-        from = taken.next;
     }
-    flush(rt, session, out)
-}
 
-// Reads once, and answers the lines that have ended. At the end of the input it also answers a last line without LF.
-fn turn(
-    rt: HostRuntime,
-    mut session: Session,
-    chunk: &mut Answers,
-    line: &mut Line,
-    out: &mut Answers,
-) -> Session {
-    let report = stdio::read_chunk(rt, session.reads, chunk);
-    if let stdio::Report::Bytes(count) = report {
-        return take_in(rt, session, fields::first(chunk, count), line, out);
+    // Writes the answers that wait, unless a write has failed.
+    fn flush(&mut self, rt: HostRuntime) {
+        if self.open
+            && !stdio::write_text(rt, fields::first(&self.answers.text, self.answers.len))
+        {
+            stdio::complain(rt, b"error: standard output can't be written\n");
+            self.open = false;
+        }
+        self.answers.len = 0;
     }
-    if let stdio::Report::Failed = report {
-        stdio::complain(rt, b"error: standard input can't be read\n");
-    } else if 0 < session.len {
-        session = flush(rt, end_line(rt, session, line, out), out);
+
+    // Answers every line that ends in a chunk. Each turn of the loop takes at least one byte.
+    fn take_in(&mut self, rt: HostRuntime, chunk: &[u8]) {
+        let mut from = 0;
+        while from < chunk.len() {
+            let taken = self.lines.take(chunk, from);
+            if taken.ended {
+                self.end_line(rt);
+            }
+            if taken.next <= from {
+                return;
+            }
+            from = taken.next;
+        }
+        self.flush(rt);
     }
-    session.open = false;
-    session
+
+    // Reads once, and answers the lines that have ended. At the end of the input it also answers a last line without LF.
+    fn turn(&mut self, rt: HostRuntime, reads: u64, chunk: &mut [u8]) {
+        match stdio::read_chunk(rt, reads, chunk) {
+            stdio::Report::Bytes(count) => return self.take_in(rt, fields::first(chunk, count)),
+            stdio::Report::Failed => stdio::complain(rt, b"error: standard input can't be read\n"),
+            stdio::Report::End => {
+                if 0 < self.lines.len {
+                    self.end_line(rt);
+                    self.flush(rt);
+                }
+            }
+        }
+        self.open = false;
+    }
 }
 
 // A loop must end, but an input need not. So the reads are counted, up to a number that no run reaches.
 fn main(rt: HostRuntime) {
-    let mut chunk = [0u8; ANSWERS_ROOM];
-    let mut line = [0u8; LINE_ROOM];
-    let mut out = [0u8; ANSWERS_ROOM];
+    let mut chunk = [0; CHUNK_ROOM];
     let mut session = Session {
-        reads: 0,
         kept: Kept::new(),
-        len: 0,
-        at: 0,
+        lines: Lines::new(),
+        answers: Answers {
+            text: [0; ANSWERS_ROOM],
+            len: 0,
+        },
         open: true,
     };
     for reads in 0..u64::MAX {
-        session.reads = reads;
-        session = turn(rt, session, &mut chunk, &mut line, &mut out);
+        session.turn(rt, reads, &mut chunk);
         if !session.open {
             return;
         }

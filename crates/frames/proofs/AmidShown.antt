@@ -28,7 +28,7 @@ use Rattle.fsm.specs.Polling.{polled}
 use Rattle.fsm.specs.Calls.{took_rx}
 use Rattle.station_theorems.specs.Calls.{Call, tick, start_tx, start_answer, poll, take_idle, take_rx, acknowledge, policy, after, after_all, is_between, Reached, new, called}
 use Rattle.station_theorems.specs.Ticks.{IsIdle, drives, highs_running}
-use Rattle.frames.specs.Sends.{Start, by_start_answer, started_by, taken_in, idle_at}
+use Rattle.frames.specs.Sends.{Start, by_start_answer, started_by, taken_in, idle_at, handed_out}
 use Rattle.frames.specs.ReadAs.{IsReady, HasFrame}
 use Rattle.frames.specs.Hosts.{Host, after_levels_amid, alone_amid, Each, keeps_tx, keeps_rx, keeps_capture, LetsSend, LetsHear}
 use Rattle.frames.specs.Amid.{SentAmid}
@@ -63,14 +63,14 @@ module _ (hb : HalfBitBuffer) where
 
   -- 24 bits, whatever they are, and whatever half-bits it is to be started with again
   pub new_sends_amid : (first second third : ℕ) (by : Start)
-      → let frame = bits_24 first second third in SentAmid (restless 24) by new_station (encoded_of 24 frame).buffer (frame_bits frame)
+      → let frame = bits_24 first second third in SentAmid (restless 24) by new_station (handed_out (encoded_of 24 frame)) (frame_bits frame)
   unfolding is_bit_count frame_of pick
   new_sends_amid first second third by =
       frame_to_wave_amid 24 first second third refl new_station new by (idle_may by new_station new_idle) (restless 24) (lets_send 24)
 
   -- What that says of some of its ticks.
   pub amid_at_some_ticks : (first second third : ℕ) (by : Start)
-      → let at : ℕ → DaliBitbangPhy = λ n. alone_amid (restless 24) n (started_by by new_station (encoded_of 24 (bits_24 first second third)).buffer).station in
+      → let at : ℕ → DaliBitbangPhy = λ n. alone_amid (restless 24) n (started_by by new_station (handed_out (encoded_of 24 (bits_24 first second third)))).station in
       (drives (at 3) ≡ high) × (drives (at 4) ≡ low) × (drives (at 8) ≡ high) × ((polled (at 216)).answer ≡ Transmitting) × ((polled (at 217)).answer ≡ Ok)
   unfolding bytes_of bits_of tabulate level_at wave_of bit_waves bit_wave
   amid_at_some_ticks first second third by =
@@ -78,7 +78,7 @@ module _ (hb : HalfBitBuffer) where
       (sent.armed 3 (omega arith), sent.wave 0, sent.wave 4, sent.unfinished 216 (omega arith), sent.sent 217 (omega arith))
 
   -- an answer, begun in the middle of a capture
-  pub receiving_answers_amid : (byte : ℕ) → let frame = bits_8 byte in SentAmid (restless 8) by_start_answer receiving (encoded_of 8 frame).buffer (frame_bits frame)
+  pub receiving_answers_amid : (byte : ℕ) → let frame = bits_8 byte in SentAmid (restless 8) by_start_answer receiving (handed_out (encoded_of 8 frame)) (frame_bits frame)
   unfolding is_bit_count frame_of pick taken_in hears
   receiving_answers_amid byte =
       frame_to_wave_amid 8 byte 0 0 refl receiving receiving_reached by_start_answer (ap hears it_receives) (restless 8) (lets_send 8)

@@ -10,7 +10,8 @@ use Rattle.laws.proofs.Picked.{cases}
 use Rattle.machine.specs.declared.BusState.TheVariants as bus
 use Rattle.machine.specs.declared.RxState.{RxState}
 use Rattle.fsm.specs.declared.DaliBitbangPhy.{DaliBitbangPhy}
-use Rattle.fsm.specs.declared.Polled.{Polled}
+use Rattle.fsm.specs.declared.Answered.{Answered}
+use Rattle.fsm.specs.declared.TxPollResult.{TxPollResult}
 use Rattle.fsm.specs.Ticking.{tick_of}
 use Rattle.fsm.specs.Starting.{start_tx_of, start_answer_of}
 use Rattle.machine.specs.States.{is_idle, hears, is_tx}
@@ -35,7 +36,7 @@ module _ (s : DaliBitbangPhy) where
   polled_clear : Clear s → Clear (polled s).station
   unfolding polled pick
   polled_clear clear =
-      rw (clear.1, clear.0) (cases (λ (x : Polled). Clear x.station) (is_tx s.core.bus.bus_state) (λ _. (refl, refl)) (λ _. (refl, refl)))
+      rw (clear.1, clear.0) (cases (λ (x : Answered TxPollResult). Clear x.station) (is_tx s.core.bus.bus_state) (λ _. (refl, refl)) (λ _. (refl, refl)))
 
   acknowledged_clear : Clear s → Clear (acknowledged s)
   unfolding acknowledged
@@ -56,7 +57,7 @@ module _ (s : DaliBitbangPhy) where
   polled_mark : mark_of (polled s).station ≡ mark_of s
   unfolding polled
   polled_mark =
-      let P : Polled → Type 0 = λ (x : Polled). mark_of x.station ≡ mark_of s in
+      let P : Answered TxPollResult → Type 0 = λ (x : Answered TxPollResult). mark_of x.station ≡ mark_of s in
       cases P s.core.told.tx_yielded (λ _. refl)
       (λ _. cases P (not (eqb s.core.told.tx_collision 0)) (λ _. refl) (λ _. cases P (is_tx s.core.bus.bus_state) (λ _. refl) (λ _. refl)))
 

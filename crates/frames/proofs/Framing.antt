@@ -13,7 +13,7 @@ use Rattle.lengths.specs.Lengths.{with_length, with_lengths, set_of, holds, snif
 use Rattle.window.specs.declared.PhaseDecode.{PhaseDecode}
 use Rattle.window.specs.Phase.{weighed, decode_of}
 use Rattle.search.specs.declared.SearchAnswer.{SearchAnswer}
-use Rattle.search.specs.declared.Found.TheVariants.{Decode}
+use Rattle.std.specs.Prelude.{Option, Some, None}
 use Rattle.event.specs.declared.IsrDecode.TheVariants.{NotDecoded}
 use Rattle.event.specs.declared.RxCompletedEvent.{RxCompletedEvent}
 use Rattle.event.specs.Event.{event_of, new_event}
@@ -21,9 +21,8 @@ use Rattle.halfbits.specs.Frame.{Frame, bits_8, bits_16, bits_24, bytes_of, fram
 use Rattle.halfbits.specs.Wave.{level_at}
 use Rattle.fsm.specs.declared.DaliBitbangPhy.{DaliBitbangPhy}
 use Rattle.fsm.specs.Calls.{has_event, took_rx}
-use Rattle.rx_decode.specs.declared.BackwardByte.TheVariants.{Byte}
 use Rattle.rx_decode.specs.Reading.{sniffed_of, found_or, searched_in, byte_in}
-use Rattle.frames.specs.ReadAs.{FoundInOneStep, frame_weights, frame_score, kind_of, ReadAs, HasFrame}
+use Rattle.frames.specs.ReadAs.{event_in, taken, FoundInOneStep, frame_weights, frame_score, kind_of, ReadAs, HasFrame}
 use Rattle.frames.specs.WaveToFrame.{WaveToFrame}
 use Rattle.frames.specs.Amid.{no_calls, WaveToFrameAmid}
 use Rattle.frames.proofs.Between.{no_calls_lem}
@@ -45,10 +44,10 @@ is_sniffed (bits_24 a b c) = rw (as_many (a ∷ b ∷ c ∷ []))
 
 -- ---- the readings
 -- no event of a station holds a decode
-fresh : (s : DaliBitbangPhy) → (took_rx s).event.isr_decode ≡ NotDecoded
+fresh : (s : DaliBitbangPhy) → (taken s).isr_decode ≡ NotDecoded
 unfolding took_rx new_event event_of
 fresh s =
-    let P : RxCompletedEvent → Type 0 = λ (ev : RxCompletedEvent). ev.isr_decode ≡ NotDecoded in
+    let P : Option RxCompletedEvent → Type 0 = λ (ev : Option RxCompletedEvent). (event_in ev).isr_decode ≡ NotDecoded in
     cases P (has_event s) (λ _. refl) (λ _. refl)
 
 abbrev decode : Frame → PhaseDecode
@@ -56,22 +55,22 @@ decode frame = decode_of (pos 0) (weighed (frame_weights (frame_bits frame)))
 
 module _ (ev : RxCompletedEvent) where
   searched : (frame : Frame) → FoundInOneStep (frame_bits frame) ev → (preferred : BitLengths) → holds preferred (length (frame_bits frame)) ≡ true
-      → searched_in preferred ev ≡ Decode (decode frame)
+      → searched_in preferred ev ≡ Some (decode frame)
   unfolding searched_in
   searched frame step preferred held =
       let (some, few) = few_bits frame in
       ap (λ (a : SearchAnswer). a.found) (step preferred some (omega arith) held)
 
-  told : (frame : Frame) → AreBytes (bytes_of frame) → sniffed_of (Decode (decode frame)) ≡ record { frame = kind_of frame; phase_ticks = pos 0; score = frame_score (frame_bits frame) }
+  told : (frame : Frame) → AreBytes (bytes_of frame) → sniffed_of (Some (decode frame)) ≡ record { frame = kind_of frame; phase_ticks = pos 0; score = frame_score (frame_bits frame) }
   unfolding sniffed_of decode_of
   told frame are = let (some, few) = few_bits frame in rw (length_is (frame_bits frame) (omega arith), kind_is frame are)
 
-  of_8_bits : (byte : ℕ) → AreBytes (byte ∷ []) → FoundInOneStep (frame_bits (bits_8 byte)) ev → byte_in (searched_in backward_lengths ev) ≡ Byte byte
+  of_8_bits : (byte : ℕ) → AreBytes (byte ∷ []) → FoundInOneStep (frame_bits (bits_8 byte)) ev → byte_in (searched_in backward_lengths ev) ≡ Some byte
   unfolding byte_in decode_of bytes_of backward_lengths holds set_of with_lengths with_length pick
   of_8_bits byte are step =
       let len = as_many (byte ∷ []) in
       ap byte_in (searched (bits_8 byte) step backward_lengths (rw len))
-      ∙ rw (length_is (frame_bits (bits_8 byte)) (omega arith), len) (ap Byte (byte_is (byte ∷ []) are (omega arith) 0 (omega arith)))
+      ∙ rw (length_is (frame_bits (bits_8 byte)) (omega arith), len) (ap Some (byte_is (byte ∷ []) are (omega arith) 0 (omega arith)))
 
   read_as : ev.isr_decode ≡ NotDecoded → (frame : Frame) → AreBytes (bytes_of frame) → FoundInOneStep (frame_bits frame) ev → ReadAs frame ev
   unfolding found_or bytes_of

@@ -14,7 +14,7 @@ use Rattle.lengths.specs.Lengths.{holds}
 use Rattle.window.specs.declared.SampleWindow.{SampleWindow}
 use Rattle.window.specs.Window.{window_of, sample_bits, tick_at}
 use Rattle.window.specs.Phase.{weighed, bits_of, length_of, decode_of, phase_of}
-use Rattle.search.specs.declared.Found.TheVariants.{Decode}
+use Rattle.std.specs.Prelude.{Some}
 use Rattle.search.specs.Search.{new_of, run_of, accepted_of}
 use Rattle.search.specs.Steps.{search_of}
 use Rattle.search.proofs.Runs.{run_of_new}
@@ -47,7 +47,7 @@ unfolding length_of frame_weights
 length_is frame h = rw (length_weights (true ∷ frame)) (simp (on_true (lt-ltb 1 (suc (length frame)) (omega arith))) (omega arith))
 
 found : (frame : List Bool) (w : SampleWindow) → bits_of w 32 (pos 0) ≡ weighed (frame_weights frame) → (preferred : BitLengths) → 3 ≤ length frame
-    → holds preferred (length frame) ≡ true → run_of (new_of preferred) w ≡ record { found = Decode (decode_of (pos 0) (weighed (frame_weights frame))); steps = 1 }
+    → holds preferred (length frame) ≡ true → run_of (new_of preferred) w ≡ record { found = Some (decode_of (pos 0) (weighed (frame_weights frame))); steps = 1 }
 unfolding search_of phase_of accepted_of decode_of
 found frame w read preferred h held =
     let len = length_is frame (omega arith) in
@@ -59,7 +59,7 @@ module _ (frame : List Bool) (fits : FitsCapture frame) (s : DaliBitbangPhy) (ca
   capture = caught.capture
 
   is_ready : IsReady s
-  unfolding took_rx is_completed
+  unfolding took_rx is_completed pick
   is_ready = rw capture.ready
 
   window_is : window_in (taken s) ≡ window_of (last_bytes s) (caught.end / 8 + 1)

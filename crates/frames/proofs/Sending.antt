@@ -24,7 +24,8 @@ use Rattle.machine.specs.declared.BusState.TheVariants as bus
 use Rattle.machine.specs.declared.CollisionPolicy.{CollisionPolicy}
 use Rattle.machine.specs.Starting.{loaded}
 use Rattle.fsm.specs.declared.DaliBitbangPhy.{DaliBitbangPhy}
-use Rattle.fsm.specs.declared.StartAnswer.TheVariants as start
+use Rattle.std.specs.declared.result.Result.TheVariants as result
+use Rattle.fsm.specs.declared.StartError.TheVariants.{Busy}
 use Rattle.fsm.specs.declared.TxPollResult.TheVariants.{Ok, Transmitting}
 use Rattle.fsm.specs.Starting.{length_fits, started_with, loaded_with, started, start_tx_of, start_answer_of}
 use Rattle.machine.specs.States.{is_idle, hears, is_tx}
@@ -80,7 +81,7 @@ says_transmitting : {bits : List Bool} {policy : CollisionPolicy} {ticks j left 
 unfolding polled is_tx pick
 says_transmitting a = rw (a.clear.1, a.clear.0, a.state)
 
-refuses : (s : DaliBitbangPhy) → IsSending s → (by : Start) (hb : HalfBitBuffer) → (started_by by s hb).answer ≡ start.Busy
+refuses : (s : DaliBitbangPhy) → IsSending s → (by : Start) (hb : HalfBitBuffer) → (started_by by s hb).answer ≡ result.Err Busy
 unfolding started_by start_tx_of start_answer_of is_idle hears pick
 refuses s sending by_start_tx hb = rw sending
 refuses s sending by_start_answer hb = rw sending
@@ -180,14 +181,14 @@ may_hear by_start_answer bus.CollisionTx may = may
 
 -- and refuses no length that fits
 accepted : (by : Start) (s : DaliBitbangPhy) (hb : HalfBitBuffer) → MayStart by s → 0 < hb.length → hb.length ≤ 54
-    → started_by by s hb ≡ started_with (loaded_with s hb (is_answer by)) start.Started
+    → started_by by s hb ≡ started_with (loaded_with s hb (is_answer by)) (result.Ok tt)
 unfolding started_by is_answer taken_in start_tx_of start_answer_of started length_fits
 accepted by s hb may some most = go by may
   where
     fits : length_fits hb.length ≡ true
     fits = joins (ap not (ne_eqb hb.length 0 (λ e. omega (arith, e)))) (le-leb hb.length 54 most)
 
-    go : (by : Start) → MayStart by s → started_by by s hb ≡ started_with (loaded_with s hb (is_answer by)) start.Started
+    go : (by : Start) → MayStart by s → started_by by s hb ≡ started_with (loaded_with s hb (is_answer by)) (result.Ok tt)
     go by_start_tx may = let idle : is_idle s.core.bus.bus_state ≡ true = may in on_true idle _ _ ∙ on_true fits _ _
     go by_start_answer may = let listens : hears s.core.bus.bus_state ≡ true = may in on_true listens _ _ ∙ on_true fits _ _
 
@@ -211,7 +212,7 @@ loaded_sends bits s answer line = record {
 -- The start is taken, and the station is ready to send.
 takes : (bits : List Bool) → FitsBuffer bits → (s : DaliBitbangPhy) → Reached s → (by : Start) → MayStart by s
     → let started = started_by by s (buffer_of bits) in
-    (started.answer ≡ start.Started) × Sender bits s.core.collision_policy 3 0 0 high started.station
+    (started.answer ≡ result.Ok tt) × Sender bits s.core.collision_policy 3 0 0 high started.station
 unfolding buffer_of
 takes bits fits s reached by may =
     let line : drives s ≡ high = (invariants s reached).released (may_hear by s.core.bus.bus_state may) in
@@ -220,7 +221,7 @@ takes bits fits s reached by may =
 -- An Idle station takes either.
 pub begins : (bits : List Bool) → FitsBuffer bits → (s : DaliBitbangPhy) → Reached s → IsIdle s → (by : Start)
     → let started = started_by by s (buffer_of bits) in
-    (started.answer ≡ start.Started) × Sender bits s.core.collision_policy 3 0 0 high started.station
+    (started.answer ≡ result.Ok tt) × Sender bits s.core.collision_policy 3 0 0 high started.station
 begins bits fits s reached idle by = takes bits fits s reached by (idle_may by s idle)
 
 -- ---- the theorems

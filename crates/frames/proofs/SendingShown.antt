@@ -1,5 +1,6 @@
 -- Stations that the theorems of Sending speak of: a new one, one that is debouncing, one in the middle of a capture, and one that has sent
 -- before. Assumes nothing.
+use Rattle.std.specs.Prelude.{Result, ⊤}
 use Prim.Native.Nat.{ℕ}
 use native.Mathlib.Omega.{arith}
 use mathlib.Core.List.{List, [], ◌∷◌}
@@ -17,8 +18,10 @@ use Rattle.machine.specs.Runs.{runs_counted}
 use Rattle.fsm.specs.Rx.{high_run, sampled, filled, rx_tick, went_on}
 use Rattle.machine.specs.Idle.{entered, idle_tick, silent, fell}
 use Rattle.fsm.specs.declared.DaliBitbangPhy.{DaliBitbangPhy}
-use Rattle.fsm.specs.declared.Started.{Started}
-use Rattle.fsm.specs.declared.StartAnswer.TheVariants as start
+use Rattle.fsm.specs.declared.Answered.{Answered}
+use Rattle.fsm.specs.declared.StartError.{StartError}
+use Rattle.std.specs.declared.result.Result.TheVariants as result
+use Rattle.fsm.specs.declared.StartError.TheVariants.{Busy}
 use Rattle.fsm.specs.Station.{new_core, new_station}
 use Rattle.fsm.specs.Ticking.{tick_in, tick_of}
 use Rattle.machine.specs.States.{is_idle, hears}
@@ -26,7 +29,7 @@ use Rattle.fsm.specs.Starting.{start_tx_of}
 use Rattle.station_theorems.specs.Calls.{after, Reached, new, called}
 use Rattle.station_theorems.specs.Calls as call
 use Rattle.station_theorems.specs.Ticks.{drives, IsIdle, IsSending, alone}
-use Rattle.frames.specs.Sends.{Start, by_start_tx, by_start_answer, started_by, taken_in, Sent}
+use Rattle.frames.specs.Sends.{Start, by_start_tx, by_start_answer, started_by, taken_in, Sent, handed_out}
 use Rattle.frames.specs.NextFrame.{Sending, AllFit, after_sending, first_of}
 use Rattle.frames.proofs.Sending.{idle_may, frame_to_wave, next_frame_to_wave}
 
@@ -37,13 +40,13 @@ new_idle = refl
 
 -- 24 bits, whatever they are
 pub new_sends : (first second third : ℕ) (by : Start)
-    → let frame = bits_24 first second third in Sent by new_station (encoded_of 24 frame).buffer (frame_bits frame)
+    → let frame = bits_24 first second third in Sent by new_station (handed_out (encoded_of 24 frame)) (frame_bits frame)
 unfolding is_bit_count frame_of pick
 new_sends first second third by = frame_to_wave 24 first second third refl new_station new by (idle_may by new_station new_idle)
 
 -- What that says of some of its ticks: the last one before the wave, the two halves of the start bit, and the end.
 pub new_at_some_ticks : (first second third : ℕ) (by : Start)
-    → let s = (started_by by new_station (encoded_of 24 (bits_24 first second third)).buffer).station in
+    → let s = (started_by by new_station (handed_out (encoded_of 24 (bits_24 first second third)))).station in
     (drives (alone 3 s) ≡ high) × (drives (alone 4 s) ≡ low) × (drives (alone 8 s) ≡ high) × IsSending (alone 216 s) × IsIdle (alone 217 s)
 unfolding bytes_of bits_of tabulate level_at wave_of bit_waves bit_wave
 new_at_some_ticks first second third by =
@@ -60,7 +63,7 @@ it_debounces = (refl, refl)
 
 -- 16 bits, whatever they are
 pub debouncing_sends : (first second : ℕ) (by : Start)
-    → let frame = bits_16 first second in Sent by debouncing (encoded_of 16 frame).buffer (frame_bits frame)
+    → let frame = bits_16 first second in Sent by debouncing (handed_out (encoded_of 16 frame)) (frame_bits frame)
 unfolding is_bit_count frame_of pick
 debouncing_sends first second by = frame_to_wave 16 first second 0 refl debouncing (called (call.tick low) new) by (idle_may by debouncing it_debounces.0)
 
@@ -76,14 +79,14 @@ pub receiving_reached : Reached receiving
 receiving_reached = called (call.tick high) (called (call.tick low) (called (call.tick low) (called (call.tick low) new)))
 
 -- It answers 8 bits, whatever they are
-pub receiving_answers : (byte : ℕ) → let frame = bits_8 byte in Sent by_start_answer receiving (encoded_of 8 frame).buffer (frame_bits frame)
+pub receiving_answers : (byte : ℕ) → let frame = bits_8 byte in Sent by_start_answer receiving (handed_out (encoded_of 8 frame)) (frame_bits frame)
 unfolding is_bit_count frame_of pick taken_in hears
 receiving_answers byte = frame_to_wave 8 byte 0 0 refl receiving receiving_reached by_start_answer (ap hears it_receives)
 
 -- and is not sent otherwise.
-pub receiving_refuses : (hb : HalfBitBuffer) → (started_by by_start_tx receiving hb).answer ≡ start.Busy
+pub receiving_refuses : (hb : HalfBitBuffer) → (started_by by_start_tx receiving hb).answer ≡ result.Err Busy
 unfolding started_by start_tx_of is_idle
-receiving_refuses hb = ap (λ (r : Started). r.answer) (on_false (ap is_idle it_receives) _ _)
+receiving_refuses hb = ap (λ (r : Answered (Result ⊤ StartError)). r.answer) (on_false (ap is_idle it_receives) _ _)
 
 -- ---- one that has answered 8 bits and sent 16
 abbrev pub before : List Sending

@@ -6,10 +6,10 @@ use Rattle.halfbits.specs.Wave.{level_at}
 use Rattle.halfbits.specs.HalfBits.{buffer_of}
 use Rattle.halfbits.specs.Encoding.{is_bit_count, frame_of, encoded_of}
 use Rattle.fsm.specs.declared.DaliBitbangPhy.{DaliBitbangPhy}
-use Rattle.fsm.specs.declared.StartAnswer.TheVariants as start
+use Rattle.std.specs.declared.result.Result.TheVariants as result
 use Rattle.station_theorems.specs.Calls.{Reached}
 use Rattle.station_theorems.specs.Ticks.{IsIdle, after_levels, alone}
-use Rattle.frames.specs.Sends.{Start, started_by, MayStart, FitsBuffer, SendsAt}
+use Rattle.frames.specs.Sends.{Start, started_by, MayStart, FitsBuffer, handed_out, SendsAt}
 use Rattle.frames.specs.ReadAs.{Whole, FitsCapture, HasBits, HasFrame}
 use Rattle.frames.specs.Hosts.{Host, after_levels_amid, alone_amid, LetsSend, LetsHear}
 
@@ -19,7 +19,7 @@ use Rattle.frames.specs.Hosts.{Host, after_levels_amid, alone_amid, LetsSend, Le
 -- ---- from frame to wave
 -- The start is not refused, and the station sends the frame amid the host's calls.
 abbrev pub SentAmid : Host → Start → DaliBitbangPhy → HalfBitBuffer → List Bool → Type 0
-SentAmid host by s hb row = ((started_by by s hb).answer ≡ start.Started) × SendsAt row (alone_amid host) (started_by by s hb).station
+SentAmid host by s hb row = ((started_by by s hb).answer ≡ result.Ok tt) × SendsAt row (alone_amid host) (started_by by s hb).station
 
 -- A reached station that may start sends any bits that fit the buffer, if the host lets it.
 abbrev pub BitsToWaveAmid : Type 0
@@ -31,7 +31,7 @@ BitsToWaveAmid =
 abbrev pub FrameToWaveAmid : Type 0
 FrameToWaveAmid =
     (bits first second third : ℕ) → is_bit_count bits ≡ true → (s : DaliBitbangPhy) → Reached s → (by : Start) → MayStart by s
-    → (host : Host) → LetsSend bits host → let frame = frame_of bits first second third in SentAmid host by s (encoded_of bits frame).buffer (frame_bits frame)
+    → (host : Host) → LetsSend bits host → let frame = frame_of bits first second third in SentAmid host by s (handed_out (encoded_of bits frame)) (frame_bits frame)
 
 -- ---- from wave to frame
 -- A reached station in Idle that hears a wave whole has the wave's bits in its capture, if the host lets it.

@@ -5,7 +5,7 @@ use Rattle.halfbits.specs.HalfBits.{buffer_of}
 use Rattle.halfbits.specs.Encoding.{is_bit_count, frame_of, encoded_of}
 use Rattle.fsm.specs.declared.DaliBitbangPhy.{DaliBitbangPhy}
 use Rattle.station_theorems.specs.Calls.{Reached}
-use Rattle.frames.specs.Sends.{Start, MayStart, FitsBuffer, Sent}
+use Rattle.frames.specs.Sends.{Start, MayStart, FitsBuffer, handed_out, Sent}
 
 -- A reached station that may start takes the start and sends any bits that fit the buffer.
 abbrev pub BitsToWave : Type 0
@@ -16,4 +16,4 @@ BitsToWave =
 abbrev pub FrameToWave : Type 0
 FrameToWave =
     (bits first second third : ℕ) → is_bit_count bits ≡ true → (s : DaliBitbangPhy) → Reached s → (by : Start) → MayStart by s
-    → let frame = frame_of bits first second third in Sent by s (encoded_of bits frame).buffer (frame_bits frame)
+    → let frame = frame_of bits first second third in Sent by s (handed_out (encoded_of bits frame)) (frame_bits frame)

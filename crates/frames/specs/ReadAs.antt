@@ -1,20 +1,19 @@
 -- Document 01, "The wave" and "Reading": when a station has heard a wave whole, and when its capture is read as a frame. Assumes nothing.
-use Rattle.std.specs.Prelude.{ℕ, ◌+◌, ◌*◌, ◌≤◌, Bool, true, false, List, [], ◌∷◌, ◌≡◌, pos, length}
+use Rattle.std.specs.Prelude.{ℕ, ◌+◌, ◌*◌, ◌≤◌, Bool, true, false, List, [], ◌∷◌, ◌≡◌, pos, length, Option, Some, None, is_some}
 use Rattle.lengths.specs.declared.BitLengths.{BitLengths}
 use Rattle.lengths.specs.Lengths.{holds, sniffed_lengths, backward_lengths}
 use Rattle.window.specs.declared.SampleWindow.{SampleWindow}
 use Rattle.window.specs.Window.{window_of}
 use Rattle.window.specs.Phase.{weighed, bits_of, score_of, decode_of}
-use Rattle.search.specs.declared.Found.TheVariants.{Decode}
 use Rattle.search.specs.Search.{new_of, run_of}
 use Rattle.event.specs.declared.RxCompletedEvent.{RxCompletedEvent}
+use Rattle.event.specs.Event.{new_event}
 use Rattle.halfbits.specs.Frame.{Frame, bits_8, bits_16, bits_24, frame_bits}
 use Rattle.halfbits.specs.Wave.{level_at}
 use Rattle.fsm.specs.declared.DaliBitbangPhy.{DaliBitbangPhy}
 use Rattle.fsm.specs.Calls.{took_rx}
 use Rattle.rx_decode.specs.declared.SniffedFrame.{SniffedFrame}
 use Rattle.rx_decode.specs.declared.SniffedFrame.TheVariants.{Forward16, Backward8, Forward24}
-use Rattle.rx_decode.specs.declared.BackwardByte.TheVariants.{Byte}
 use Rattle.rx_decode.specs.Reading.{sniffed_of, searched_in, found_in, byte_in}
 use Rattle.station_theorems.specs.Ticks.{IsIdle, highs_running}
 
@@ -27,13 +26,18 @@ Whole frame ticks = 16 ≤ highs_running ticks (level_at frame)
 abbrev pub FitsCapture : List Bool → Type 0
 FitsCapture frame = length frame ≤ 59
 
+-- the event in the answer of a take, and a new one if there is none
+abbrev pub event_in : Option RxCompletedEvent → RxCompletedEvent
+event_in (Some ev) = ev
+event_in None = new_event
+
 -- the event that a take hands out
 abbrev pub taken : DaliBitbangPhy → RxCompletedEvent
-taken s = (took_rx s).event
+taken s = event_in (took_rx s).answer
 
 -- A take finds a completed capture.
 abbrev pub IsReady : DaliBitbangPhy → Type 0
-IsReady s = (took_rx s).completed ≡ true
+IsReady s = is_some (took_rx s).answer ≡ true
 
 -- the window of an event's capture
 abbrev pub window_in : RxCompletedEvent → SampleWindow
@@ -62,7 +66,7 @@ ReadAtPhase0 frame ev = (most : ℕ) → length frame ≤ most → bits_of (wind
 abbrev pub FoundInOneStep : List Bool → RxCompletedEvent → Type 0
 FoundInOneStep frame ev =
     (preferred : BitLengths) → 3 ≤ length frame → length frame ≤ 32 → holds preferred (length frame) ≡ true
-    → run_of (new_of preferred) (window_in ev) ≡ record { found = Decode (decode_of (pos 0) (weighed (frame_weights frame))); steps = 1 }
+    → run_of (new_of preferred) (window_in ev) ≡ record { found = Some (decode_of (pos 0) (weighed (frame_weights frame))); steps = 1 }
 
 -- the score of a frame: 25 for each 1, with the start bit among them, and 24 for each 0
 abbrev pub frame_score : List Bool → ℕ
@@ -79,7 +83,7 @@ kind_of (bits_24 first second third) = Forward24 first second third
 pub record ReadAs (frame : Frame) (ev : RxCompletedEvent) : Type 0 where
   pub sniffed : sniffed_of (found_in ev) ≡ record { frame = kind_of frame; phase_ticks = pos 0; score = frame_score (frame_bits frame) }
   pub one_step : (run_of (new_of sniffed_lengths) (window_in ev)).steps ≡ 1
-  pub backward : (byte : ℕ) → frame ≡ bits_8 byte → byte_in (searched_in backward_lengths ev) ≡ Byte byte
+  pub backward : (byte : ℕ) → frame ≡ bits_8 byte → byte_in (searched_in backward_lengths ev) ≡ Some byte
 
 -- ---- what is held
 -- The station is Idle and has a capture ready, which is read as these bits, or as this frame.

@@ -1,12 +1,15 @@
 -- Document 01, "The wave" and "Machine": when a station takes a start, and what it means that it sends bits. Assumes nothing.
-use Rattle.std.specs.Prelude.{ℕ, ◌+◌, ◌*◌, ◌≤◌, ◌<◌, Bool, true, List, ◌≡◌, length}
+use Rattle.std.specs.Prelude.{ℕ, ◌+◌, ◌*◌, ◌≤◌, ◌<◌, Bool, true, List, [], ◌≡◌, length, Result, ⊤}
 use Rattle.halfbits.specs.declared.HalfBitBuffer.{HalfBitBuffer}
 use Rattle.halfbits.specs.Wave.{high, level_at}
-use Rattle.halfbits.specs.HalfBits.{half_bits_of}
+use Rattle.halfbits.specs.declared.EncodeError.{EncodeError}
+use Rattle.halfbits.specs.HalfBits.{half_bits_of, buffer_of}
 use Rattle.machine.specs.declared.BusState.{BusState}
 use Rattle.fsm.specs.declared.DaliBitbangPhy.{DaliBitbangPhy}
-use Rattle.fsm.specs.declared.Started.{Started}
-use Rattle.fsm.specs.declared.StartAnswer.TheVariants as start
+use Rattle.fsm.specs.declared.Answered.{Answered}
+use Rattle.fsm.specs.declared.StartError.{StartError}
+use Rattle.std.specs.declared.result.Result.TheVariants as result
+use Rattle.fsm.specs.declared.StartError.TheVariants.{Busy}
 use Rattle.fsm.specs.declared.TxPollResult.TheVariants.{Ok, Transmitting}
 use Rattle.fsm.specs.Starting.{start_tx_of, start_answer_of}
 use Rattle.machine.specs.States.{is_idle, hears}
@@ -20,7 +23,7 @@ pub data Start : Type 0 where
   by_start_answer : Start
 
 -- what that call hands back
-unfoldable pub started_by : Start → DaliBitbangPhy → HalfBitBuffer → Started
+unfoldable pub started_by : Start → DaliBitbangPhy → HalfBitBuffer → Answered (Result ⊤ StartError)
 started_by by_start_tx s hb = start_tx_of s hb
 started_by by_start_answer s hb = start_answer_of s hb
 
@@ -37,6 +40,11 @@ MayStart by s = taken_in by s.core.bus.bus_state ≡ true
 abbrev pub FitsBuffer : List Bool → Type 0
 FitsBuffer row = half_bits_of (length row) ≤ 54
 
+-- the buffer in an answer of the encoder. If the encoder refuses the bit count, there is none, and this is the buffer of no bits.
+abbrev pub handed_out : Result HalfBitBuffer EncodeError → HalfBitBuffer
+handed_out (result.Ok hb) = hb
+handed_out (result.Err e) = buffer_of []
+
 -- the tick at which the station is Idle again, counted from the start call: 89, 153 and 217 for 8, 16 and 24 bits
 abbrev pub idle_at : ℕ → ℕ
 idle_at bits = 8 * bits + 25
@@ -50,7 +58,7 @@ pub record SendsAt (row : List Bool) (at : ℕ → DaliBitbangPhy → DaliBitban
   pub wave : (tick : ℕ) → drives (at (4 + tick) s) ≡ level_at row tick
   pub sending : (tick : ℕ) → tick < idle_at (length row) → IsSending (at tick s)
   pub unfinished : (tick : ℕ) → tick < idle_at (length row) → (polled (at tick s)).answer ≡ Transmitting
-  pub busy : (tick : ℕ) → tick < idle_at (length row) → (by : Start) (hb : HalfBitBuffer) → (started_by by (at tick s) hb).answer ≡ start.Busy
+  pub busy : (tick : ℕ) → tick < idle_at (length row) → (by : Start) (hb : HalfBitBuffer) → (started_by by (at tick s) hb).answer ≡ result.Err Busy
   pub idle : (tick : ℕ) → idle_at (length row) ≤ tick → IsIdle (at tick s)
   pub sent : (tick : ℕ) → idle_at (length row) ≤ tick → (polled (at tick s)).answer ≡ Ok
 
@@ -60,4 +68,4 @@ Sends row s = SendsAt row alone s
 
 -- The start is not refused, and the station sends the bits.
 abbrev pub Sent : Start → DaliBitbangPhy → HalfBitBuffer → List Bool → Type 0
-Sent by s hb row = ((started_by by s hb).answer ≡ start.Started) × Sends row (started_by by s hb).station
+Sent by s hb row = ((started_by by s hb).answer ≡ result.Ok tt) × Sends row (started_by by s hb).station

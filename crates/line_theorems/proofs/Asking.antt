@@ -1,4 +1,5 @@
 -- Calls that start nothing, and what they leave as it was. Assumes nothing.
+use Rattle.std.specs.Prelude.{⊤, Result, Option}
 use Prim.Native.Nat.{ℕ, suc, ◌-◌, ◌<◌}
 use native.Mathlib.Omega.{arith}
 use native.Mathlib.Decide.{ℕ_discrete}
@@ -14,20 +15,19 @@ use Rattle.laws.proofs.Picked.{on_true, cases}
 use Rattle.machine.specs.declared.Bus.{Bus}
 use Rattle.machine.specs.declared.Runs.{Runs}
 use Rattle.fsm.specs.declared.DaliBitbangPhy.{DaliBitbangPhy}
-use Rattle.fsm.specs.declared.Polled.{Polled}
+use Rattle.fsm.specs.declared.Answered.{Answered}
+use Rattle.fsm.specs.declared.TxPollResult.{TxPollResult}
 use Rattle.fsm.specs.Station.{last_event, new_station}
 use Rattle.fsm.specs.Ticking.{tick_of}
 use Rattle.machine.specs.States.{hears, is_tx}
 use Rattle.fsm.specs.Polling.{polled}
 use Rattle.fsm.specs.Calls.{with_policy, took_idle, has_event, acknowledged, took_rx}
+use Rattle.fsm.specs.declared.StartError.{StartError}
+use Rattle.event.specs.declared.RxCompletedEvent.{RxCompletedEvent}
 use Rattle.bench_line.specs.declared.BenchLine.{BenchLine}
-use Rattle.bench_line.specs.declared.LineChanged.{LineChanged}
-use Rattle.bench_line.specs.declared.LineStarted.{LineStarted}
-use Rattle.bench_line.specs.declared.LinePolled.{LinePolled}
-use Rattle.bench_line.specs.declared.LineTookIdle.{LineTookIdle}
-use Rattle.bench_line.specs.declared.LineTookRx.{LineTookRx}
+use Rattle.bench_line.specs.declared.LineAnswered.{LineAnswered}
 use Rattle.bench_line.specs.Line.{stations_on, is_on, station_at, with_station, line_ticked}
-use Rattle.bench_line.specs.Calls.{changed_at, started_at, polled_at, took_idle_at, took_rx_at}
+use Rattle.bench_line.specs.Calls.{answered_at}
 use Rattle.station_theorems.specs.Calls as station
 use Rattle.station_theorems.specs.Calls.{Call, after, is_between}
 use Rattle.line_theorems.specs.Reached.{LineCall, tick, start_tx, start_answer, poll, take_idle, take_rx, acknowledge, policy}
@@ -58,7 +58,7 @@ module _ (s : DaliBitbangPhy) where
   poll_keeps : Kept station.poll s (polled s).station
   unfolding polled
   poll_keeps =
-      let P : Polled → Type 0 = λ (x : Polled). Kept station.poll s x.station in
+      let P : Answered TxPollResult → Type 0 = λ (x : Answered TxPollResult). Kept station.poll s x.station in
       cases P s.core.told.tx_yielded
       (λ _. record { bus = refl; runs = refl; last = refl; collisions = λ other. absurd (other refl); yields = λ other. absurd (other refl); marked = λ _. refl; event = λ _ _. refl })
       (λ _. cases P (not (eqb s.core.told.tx_collision 0))
@@ -113,15 +113,15 @@ line_call n station.acknowledge = acknowledge n
 line_call n (station.policy p) = policy n p
 
 pub count_kept : (l : BenchLine) (c : LineCall) → (line_after c l).count ≡ l.count
-unfolding line_after line_ticked started_at polled_at took_idle_at took_rx_at changed_at
+unfolding line_after line_ticked answered_at
 count_kept l tick = refl
-count_kept l (start_tx number hb) = cases (λ (r : LineStarted). r.line.count ≡ l.count) (is_on l number) (λ _. refl) (λ _. refl)
-count_kept l (start_answer number hb) = cases (λ (r : LineStarted). r.line.count ≡ l.count) (is_on l number) (λ _. refl) (λ _. refl)
-count_kept l (poll number) = cases (λ (r : LinePolled). r.line.count ≡ l.count) (is_on l number) (λ _. refl) (λ _. refl)
-count_kept l (take_idle number) = cases (λ (r : LineTookIdle). r.line.count ≡ l.count) (is_on l number) (λ _. refl) (λ _. refl)
-count_kept l (take_rx number) = cases (λ (r : LineTookRx). r.line.count ≡ l.count) (is_on l number) (λ _. refl) (λ _. refl)
-count_kept l (acknowledge number) = cases (λ (r : LineChanged). r.line.count ≡ l.count) (is_on l number) (λ _. refl) (λ _. refl)
-count_kept l (policy number p) = cases (λ (r : LineChanged). r.line.count ≡ l.count) (is_on l number) (λ _. refl) (λ _. refl)
+count_kept l (start_tx number hb) = cases (λ (r : LineAnswered (Result ⊤ StartError)). r.line.count ≡ l.count) (is_on l number) (λ _. refl) (λ _. refl)
+count_kept l (start_answer number hb) = cases (λ (r : LineAnswered (Result ⊤ StartError)). r.line.count ≡ l.count) (is_on l number) (λ _. refl) (λ _. refl)
+count_kept l (poll number) = cases (λ (r : LineAnswered TxPollResult). r.line.count ≡ l.count) (is_on l number) (λ _. refl) (λ _. refl)
+count_kept l (take_idle number) = cases (λ (r : LineAnswered Bool). r.line.count ≡ l.count) (is_on l number) (λ _. refl) (λ _. refl)
+count_kept l (take_rx number) = cases (λ (r : LineAnswered (Option RxCompletedEvent)). r.line.count ≡ l.count) (is_on l number) (λ _. refl) (λ _. refl)
+count_kept l (acknowledge number) = cases (λ (r : LineAnswered ⊤). r.line.count ≡ l.count) (is_on l number) (λ _. refl) (λ _. refl)
+count_kept l (policy number p) = cases (λ (r : LineAnswered ⊤). r.line.count ≡ l.count) (is_on l number) (λ _. refl) (λ _. refl)
 
 module _ (l : BenchLine) (reached : ReachedLine l) (n : ℕ) (on : n < stations_on l) (P : DaliBitbangPhy → Type 0) (before : P (station_at l n)) where
   at : {A : Type 0} (line : A → BenchLine) (number : ℕ) (s : DaliBitbangPhy) {made refused : A} → line made ≡ with_station l number s → line refused ≡ l
@@ -136,15 +136,15 @@ module _ (l : BenchLine) (reached : ReachedLine l) (n : ℕ) (on : n < stations_
   -- What is so of a station stays so, if it does where the line ticks, and where the station itself is called.
   pub stays : (c : LineCall) → starts_nothing c ≡ true → (c ≡ tick → P (tick_of (station_at l n) l.level))
       → ((k : Call) → is_between k ≡ true → c ≡ line_call n k → P (after k (station_at l n))) → P (station_at (line_after c l) n)
-  unfolding line_after starts_nothing is_between after polled_at took_idle_at took_rx_at changed_at
+  unfolding line_after starts_nothing is_between after answered_at
   stays tick e ticks own = rw (tick_at l (line_invariants l reached).places n on) (ticks refl)
   stays (start_tx number hb) e ticks own = absurd (false≢true e)
   stays (start_answer number hb) e ticks own = absurd (false≢true e)
-  stays (poll number) e ticks own = at (λ (r : LinePolled). r.line) number _ refl refl (λ same. rw same (own station.poll refl (ap poll same)))
-  stays (take_idle number) e ticks own = at (λ (r : LineTookIdle). r.line) number _ refl refl (λ same. rw same (own station.take_idle refl (ap take_idle same)))
-  stays (take_rx number) e ticks own = at (λ (r : LineTookRx). r.line) number _ refl refl (λ same. rw same (own station.take_rx refl (ap take_rx same)))
-  stays (acknowledge number) e ticks own = at (λ (r : LineChanged). r.line) number _ refl refl (λ same. rw same (own station.acknowledge refl (ap acknowledge same)))
-  stays (policy number p) e ticks own = at (λ (r : LineChanged). r.line) number _ refl refl (λ same. rw same (own (station.policy p) refl (ap (λ m. policy m p) same)))
+  stays (poll number) e ticks own = at (λ (r : LineAnswered TxPollResult). r.line) number _ refl refl (λ same. rw same (own station.poll refl (ap poll same)))
+  stays (take_idle number) e ticks own = at (λ (r : LineAnswered Bool). r.line) number _ refl refl (λ same. rw same (own station.take_idle refl (ap take_idle same)))
+  stays (take_rx number) e ticks own = at (λ (r : LineAnswered (Option RxCompletedEvent)). r.line) number _ refl refl (λ same. rw same (own station.take_rx refl (ap take_rx same)))
+  stays (acknowledge number) e ticks own = at (λ (r : LineAnswered ⊤). r.line) number _ refl refl (λ same. rw same (own station.acknowledge refl (ap acknowledge same)))
+  stays (policy number p) e ticks own = at (λ (r : LineAnswered ⊤). r.line) number _ refl refl (λ same. rw same (own (station.policy p) refl (ap (λ m. policy m p) same)))
 
 -- the station that is called
 module _ (l : BenchLine) (reached : ReachedLine l) (n : ℕ) (on : n < stations_on l) where
@@ -152,12 +152,12 @@ module _ (l : BenchLine) (reached : ReachedLine l) (n : ℕ) (on : n < stations_
   put s = get_or-set_same l.stations n s new_station (omega (arith, (line_invariants l reached).places, on))
 
   pub polled_here : station_at (line_after (poll n) l) n ≡ (polled (station_at l n)).station
-  unfolding line_after polled_at
-  polled_here = ap (λ (r : LinePolled). station_at r.line n) (on_true (lt-ltb n (stations_on l) on) _ _) ∙ put _
+  unfolding line_after answered_at
+  polled_here = ap (λ (r : LineAnswered TxPollResult). station_at r.line n) (on_true (lt-ltb n (stations_on l) on) _ _) ∙ put _
 
   pub taken_here : station_at (line_after (take_idle n) l) n ≡ (took_idle (station_at l n)).station
-  unfolding line_after took_idle_at
-  taken_here = ap (λ (r : LineTookIdle). station_at r.line n) (on_true (lt-ltb n (stations_on l) on) _ _) ∙ put _
+  unfolding line_after answered_at
+  taken_here = ap (λ (r : LineAnswered Bool). station_at r.line n) (on_true (lt-ltb n (stations_on l) on) _ _) ∙ put _
 
 -- ---- many calls
 pub all_keep : (Q : BenchLine → Type 0) (Allowed : LineCall → Type 0) → ((l : BenchLine) (c : LineCall) → starts_nothing c ≡ true → Allowed c → Q l → Q (line_after c l))

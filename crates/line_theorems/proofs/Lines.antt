@@ -1,4 +1,5 @@
 -- What every call keeps of a line, and what a tick does to one place of it. Assumes nothing.
+use Rattle.std.specs.Prelude.{Result, ⊤, Option}
 use Prim.Native.Nat.{ℕ, zero, suc, ◌≤◌, ◌<◌}
 use native.Mathlib.Omega.{arith}
 use native.Mathlib.Decide.{ℕ_discrete}
@@ -14,23 +15,23 @@ use Rattle.laws.proofs.Picked.{cases}
 use Rattle.halfbits.specs.declared.HalfBitBuffer.{HalfBitBuffer}
 use Rattle.machine.specs.Starting.{loaded}
 use Rattle.fsm.specs.declared.DaliBitbangPhy.{DaliBitbangPhy}
-use Rattle.fsm.specs.declared.Started.{Started}
-use Rattle.fsm.specs.declared.StartAnswer.TheVariants.{Busy}
+use Rattle.fsm.specs.declared.Answered.{Answered}
+use Rattle.fsm.specs.declared.StartError.{StartError}
+use Rattle.std.specs.declared.result.Result.TheVariants.{Err}
+use Rattle.fsm.specs.declared.StartError.TheVariants.{Busy}
 use Rattle.fsm.specs.Station.{new_core, new_station}
 use Rattle.fsm.specs.Ticking.{tick_of}
 use Rattle.fsm.specs.Starting.{length_fits, started_with, loaded_with, started, start_tx_of, start_answer_of}
 use Rattle.machine.specs.States.{is_idle, hears}
 use Rattle.station_theorems.specs.Calls as station
 use Rattle.station_theorems.specs.Calls.{Call, after, Reached}
+use Rattle.fsm.specs.declared.TxPollResult.{TxPollResult}
+use Rattle.event.specs.declared.RxCompletedEvent.{RxCompletedEvent}
 use Rattle.bench_line.specs.declared.BenchLine.{BenchLine}
-use Rattle.bench_line.specs.declared.LineChanged.{LineChanged}
-use Rattle.bench_line.specs.declared.LineStarted.{LineStarted}
-use Rattle.bench_line.specs.declared.LinePolled.{LinePolled}
-use Rattle.bench_line.specs.declared.LineTookIdle.{LineTookIdle}
-use Rattle.bench_line.specs.declared.LineTookRx.{LineTookRx}
+use Rattle.bench_line.specs.declared.LineAnswered.{LineAnswered}
 use Rattle.bench_line.specs.Line.{stations_on, is_on, station_at, with_station, new_line_of, all_ticked, level_left, line_ticked}
 use Rattle.bench_line.specs.Refusals.{is_count}
-use Rattle.bench_line.specs.Calls.{changed_at, started_at, polled_at, took_idle_at, took_rx_at}
+use Rattle.bench_line.specs.Calls.{answered_at}
 use Rattle.station_theorems.specs.Ticks.{drives}
 use Rattle.station_theorems.proofs.Between.{between_same, by_kind}
 use Rattle.line_theorems.specs.Reached.{LineCall, tick, start_tx, start_answer, poll, take_idle, take_rx, acknowledge, policy}
@@ -50,10 +51,10 @@ is_tick (station.policy p) = false
 
 module _ (s : DaliBitbangPhy) where
   start_drives : (allowed : Bool) (hb : HalfBitBuffer) (answer : Bool)
-      → drives (pick {A = Started} allowed (started s hb answer) (started_with s Busy)).station ≡ drives s
+      → drives (pick {A = Answered (Result ⊤ StartError)} allowed (started s hb answer) (started_with s (Err Busy))).station ≡ drives s
   unfolding started loaded_with loaded
   start_drives allowed hb answer =
-      let P : Started → Type 0 = λ (x : Started). drives x.station ≡ drives s in
+      let P : Answered (Result ⊤ StartError) → Type 0 = λ (x : Answered (Result ⊤ StartError)). drives x.station ≡ drives s in
       cases P allowed (λ _. cases P (length_fits hb.length) (λ _. refl) (λ _. refl)) (λ _. refl)
 
   drives_as_before : (c : Call) → is_tick c ≡ false → drives (after c s) ≡ drives s
@@ -163,15 +164,15 @@ module _ (l : BenchLine) (h : LineHolds l) where
       (λ _. rw without h)
 
   call_holds : (c : LineCall) → LineHolds (line_after c l)
-  unfolding line_after after started_at polled_at took_idle_at took_rx_at changed_at
+  unfolding line_after after answered_at
   call_holds tick = tick_holds
-  call_holds (start_tx number hb) = at (λ (r : LineStarted). r.line) number (station.start_tx hb) refl refl refl
-  call_holds (start_answer number hb) = at (λ (r : LineStarted). r.line) number (station.start_answer hb) refl refl refl
-  call_holds (poll number) = at (λ (r : LinePolled). r.line) number station.poll refl refl refl
-  call_holds (take_idle number) = at (λ (r : LineTookIdle). r.line) number station.take_idle refl refl refl
-  call_holds (take_rx number) = at (λ (r : LineTookRx). r.line) number station.take_rx refl refl refl
-  call_holds (acknowledge number) = at (λ (r : LineChanged). r.line) number station.acknowledge refl refl refl
-  call_holds (policy number p) = at (λ (r : LineChanged). r.line) number (station.policy p) refl refl refl
+  call_holds (start_tx number hb) = at (λ (r : LineAnswered (Result ⊤ StartError)). r.line) number (station.start_tx hb) refl refl refl
+  call_holds (start_answer number hb) = at (λ (r : LineAnswered (Result ⊤ StartError)). r.line) number (station.start_answer hb) refl refl refl
+  call_holds (poll number) = at (λ (r : LineAnswered TxPollResult). r.line) number station.poll refl refl refl
+  call_holds (take_idle number) = at (λ (r : LineAnswered Bool). r.line) number station.take_idle refl refl refl
+  call_holds (take_rx number) = at (λ (r : LineAnswered (Option RxCompletedEvent)). r.line) number station.take_rx refl refl refl
+  call_holds (acknowledge number) = at (λ (r : LineAnswered ⊤). r.line) number station.acknowledge refl refl refl
+  call_holds (policy number p) = at (λ (r : LineAnswered ⊤). r.line) number (station.policy p) refl refl refl
 
 -- ---- from a new line on
 pub line_invariants : LineInvariants

@@ -1,4 +1,5 @@
 -- The theorems hold of a line on which a frame was sent before and policies were set. Assumes nothing.
+use Rattle.std.specs.Prelude.{⊤}
 use Prim.Native.Nat.{ℕ, ◌+◌, ◌<◌, ◌≤◌, min}
 use native.Mathlib.Omega.{arith}
 use native.Mathlib.Decide.{ℕ_discrete}
@@ -14,15 +15,14 @@ use Rattle.halfbits.specs.Encoding.{frame_of}
 use Rattle.machine.specs.declared.CollisionPolicy.{CollisionPolicy}
 use Rattle.machine.specs.declared.CollisionPolicy.TheVariants.{Auto, Off, On}
 use Rattle.fsm.specs.declared.DaliBitbangPhy.{DaliBitbangPhy}
-use Rattle.fsm.specs.declared.StartAnswer.TheVariants.{Started}
+use Rattle.std.specs.declared.result.Result.TheVariants as result
 use Rattle.fsm.specs.declared.TxPollResult.TheVariants.{Collision}
 use Rattle.fsm.specs.Station.{new_station}
 use Rattle.fsm.specs.Calls.{with_policy}
 use Rattle.bench_line.specs.declared.BenchLine.{BenchLine}
-use Rattle.bench_line.specs.declared.LineChanged.{LineChanged}
-use Rattle.bench_line.specs.declared.LineStart.TheVariants.{Told}
+use Rattle.bench_line.specs.declared.LineAnswered.{LineAnswered}
 use Rattle.bench_line.specs.Line.{stations_on, station_at, with_station, new_line_of}
-use Rattle.bench_line.specs.Calls.{changed_at}
+use Rattle.bench_line.specs.Calls.{answered_at}
 use Rattle.station_theorems.specs.Ticks.{IsIdle}
 use Rattle.frames.specs.Sends.{Start, by_start_answer}
 use Rattle.line_theorems.specs.Reached.{LineCall, tick, poll, take_idle, take_rx, acknowledge, policy, line_after, ReachedLine, called}
@@ -49,8 +49,8 @@ module _ (l : BenchLine) (reached : ReachedLine l) (idle : AllIdle l) (number : 
   set_line = line_after (policy number p) l
 
   set_is : set_line ≡ with_station l number (with_policy (station_at l number) p)
-  unfolding line_after changed_at
-  set_is = ap (λ (r : LineChanged). r.line) (on_true (lt-ltb number (stations_on l) on) _ _)
+  unfolding line_after answered_at
+  set_is = ap (λ (r : LineAnswered ⊤). r.line) (on_true (lt-ltb number (stations_on l) on) _ _)
 
   set_stations : stations_on set_line ≡ stations_on l
   set_stations = rw set_is
@@ -172,7 +172,7 @@ module _ (x y : ℕ) (h : x < 256) (k : y < 256) (u v w : ℕ) (p : u < 256) (q 
   short_pair : Pair old_line one short
   short_pair = old_pair short refl (is_16 old_line 2 other-by x y (omega (arith, old_four)) h k) (inl refl)
 
-  pub old_line_starts : ((started_on old_line one).answer ≡ Told Started) × ((started_on (started_on old_line one).line short).answer ≡ Told Started)
+  pub old_line_starts : ((started_on old_line one).answer ≡ result.Ok (result.Ok tt)) × ((started_on (started_on old_line one).line short).answer ≡ result.Ok (result.Ok tt))
   old_line_starts = both_started old_line old_reached old_idle one short short_pair
 
   other_frames : frame_in one ≡ frame_in short → ⊥

@@ -1,4 +1,5 @@
 -- What stations have to tell, and how long they keep it: through ticks, and through calls that start nothing. Assumes nothing.
+use Rattle.std.specs.Prelude.{is_some}
 use Prim.Native.Nat.{ℕ}
 use mathlib.Core.Bool.{Bool, true, false, false≢true, not}
 use mathlib.Core.List.{List}
@@ -17,7 +18,8 @@ use Rattle.machine.specs.Runs.{runs_counted}
 use Rattle.machine.specs.Idle.{idle_tick, silent, fell}
 use Rattle.fsm.specs.Station.{last_event}
 use Rattle.fsm.specs.declared.DaliBitbangPhy.{DaliBitbangPhy}
-use Rattle.fsm.specs.declared.Polled.{Polled}
+use Rattle.fsm.specs.declared.Answered.{Answered}
+use Rattle.fsm.specs.declared.TxPollResult.{TxPollResult}
 use Rattle.fsm.specs.declared.TxPollResult.TheVariants.{Ok, Collision}
 use Rattle.machine.specs.States.{hears, is_tx, is_completed}
 use Rattle.fsm.specs.Ticking.{tick_in, tick_of}
@@ -28,7 +30,7 @@ use Rattle.bench_line.specs.Line.{station_at}
 use Rattle.station_theorems.specs.Calls as station
 use Rattle.station_theorems.specs.Calls.{Call, after, is_between}
 use Rattle.station_theorems.specs.Ticks.{IsIdle}
-use Rattle.frames.specs.ReadAs.{IsReady, taken, ReadAs}
+use Rattle.frames.specs.ReadAs.{event_in, IsReady, taken, ReadAs}
 use Rattle.line_theorems.specs.Reached.{LineCall, poll, take_idle, take_rx, acknowledge, line_after, called, line_after_all, starts_nothing, StartNothing, Without}
 use Rattle.line_theorems.specs.OnLine.{AllIdle, Polls, FindsIdle, HoldsFrame}
 use Rattle.line_theorems.specs.AnyOrder.{KeepsFrame, KeepsOk, KeepsClash}
@@ -104,7 +106,7 @@ module _ (s : DaliBitbangPhy) where
   clears : Unyielded s → Clashes 0 (polled s).station
   unfolding polled
   clears h =
-      let P : Polled → Type 0 = λ (x : Polled). Clashes 0 x.station in
+      let P : Answered TxPollResult → Type 0 = λ (x : Answered TxPollResult). Clashes 0 x.station in
       cases P s.core.told.tx_yielded (λ e. absurd (false≢true (sym h.yields ∙ e)))
       (λ _. cases P (not (eqb s.core.told.tx_collision 0))
       (λ _. record { unyielded = record { hearing = h.hearing; yields = h.yields }; collisions = refl })
@@ -116,7 +118,7 @@ module _ (s : DaliBitbangPhy) where
   pub nothing_to_tell : IsIdle s → (polled s).answer ≡ Ok → Clashes 0 s
   unfolding polled hears
   nothing_to_tell idle =
-      let P : Polled → Type 0 = λ (x : Polled). x.answer ≡ Ok → Clashes 0 s in
+      let P : Answered TxPollResult → Type 0 = λ (x : Answered TxPollResult). x.answer ≡ Ok → Clashes 0 s in
       cases P s.core.told.tx_yielded (λ _ e. absurd (distinct (cc)))
       (λ y. cases P (not (eqb s.core.told.tx_collision 0)) (λ _ e. absurd (distinct (cc)))
       (λ c _. record { unyielded = record { hearing = ap hears idle; yields = y }; collisions = eqb-true s.core.told.tx_collision 0 (is _ c) }))
@@ -246,8 +248,8 @@ module _ {frame : Frame} (s : DaliBitbangPhy) where
   same_event : (s' : DaliBitbangPhy) → s'.core.told.rx_state ≡ s.core.told.rx_state → last_event s' ≡ last_event s → Event frame s → Event frame s'
   unfolding took_rx
   same_event s' mark last h =
-      let same : taken s' ≡ taken s = rw (mark, last) refl in
-      record { ready = ap is_completed mark ∙ h.ready; read = subst (ReadAs frame) (sym same) h.read }
+      let same : (took_rx s').answer ≡ (took_rx s).answer = rw (mark, last) refl in
+      record { ready = ap is_some same ∙ h.ready; read = subst (λ answer. ReadAs frame (event_in answer)) (sym same) h.read }
 
   event_ticks : IsIdle s → Event frame s → Event frame (tick_of s true)
   unfolding tick_of tick_in idle_tick silent fell runs_counted pick

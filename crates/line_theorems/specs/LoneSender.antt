@@ -2,10 +2,9 @@
 use Rattle.std.specs.Prelude.{ℕ, ◌+◌, ◌*◌, ◌≤◌, ◌<◌, Bool, true, List, ◌∷◌, ◌≡◌, length, get_or}
 use Rattle.laws.specs.Pick.{pick}
 use Rattle.halfbits.specs.Frame.{frame_bits}
-use Rattle.fsm.specs.declared.StartAnswer.TheVariants.{Started}
+use Rattle.std.specs.declared.result.Result.TheVariants as result
 use Rattle.fsm.specs.declared.TxPollResult.TheVariants.{Ok}
 use Rattle.bench_line.specs.declared.BenchLine.{BenchLine}
-use Rattle.bench_line.specs.declared.LineStart.TheVariants as start
 use Rattle.bench_line.specs.Line.{stations_on}
 use Rattle.frames.specs.Sends.{idle_at}
 use Rattle.line_theorems.specs.Reached.{ReachedLine}
@@ -13,7 +12,7 @@ use Rattle.line_theorems.specs.OnLine.{ticks_on, AllIdle, Sender, frame_in, IsSe
 
 -- The start is not refused. From tick 230 on every listener holds the sender's frame, a poll of the sender tells Ok, and all stations are Idle again.
 pub record Alone (l : BenchLine) (a : Sender) : Type 0 where
-  pub started : (started_on l a).answer ≡ start.Told Started
+  pub started : (started_on l a).answer ≡ result.Ok (result.Ok tt)
   pub heard : (ticks : ℕ) → 230 ≤ ticks → (listener : ℕ) → listener < stations_on l → (listener ≡ a.number → ⊥)
       → HoldsFrame (frame_in a) listener (ticks_on ticks (started_on l a).line)
   pub sent : (ticks : ℕ) → 230 ≤ ticks → Polls Ok a.number (ticks_on ticks (started_on l a).line)

@@ -1,17 +1,17 @@
 -- Document 01, "Bench line" (demand 3): senders and listeners on one line, and what they tell. Assumes nothing.
-use Rattle.std.specs.Prelude.{ℕ, zero, suc, ◌+◌, ◌≤◌, ◌<◌, Bool, true, List, [], ◌∷◌, ◌≡◌}
+use Rattle.std.specs.Prelude.{ℕ, zero, suc, ◌+◌, ◌≤◌, ◌<◌, Bool, true, List, [], ◌∷◌, ◌≡◌, Option, Some, Result, Ok, ⊤}
 use Rattle.halfbits.specs.declared.HalfBitBuffer.{HalfBitBuffer}
 use Rattle.halfbits.specs.Frame.{Frame, bytes_of, AreBytes}
 use Rattle.halfbits.specs.Encoding.{is_bit_count, frame_of, encoded_of}
+use Rattle.event.specs.declared.RxCompletedEvent.{RxCompletedEvent}
+use Rattle.fsm.specs.declared.StartError.{StartError}
 use Rattle.fsm.specs.declared.TxPollResult.{TxPollResult}
 use Rattle.bench_line.specs.declared.BenchLine.{BenchLine}
-use Rattle.bench_line.specs.declared.LineStarted.{LineStarted}
-use Rattle.bench_line.specs.declared.LinePoll.TheVariants as polled
-use Rattle.bench_line.specs.declared.LineTold.TheVariants as told
+use Rattle.bench_line.specs.declared.LineAnswered.{LineAnswered}
 use Rattle.bench_line.specs.Line.{stations_on, station_at, line_ticked}
-use Rattle.bench_line.specs.Calls.{started_at}
+use Rattle.bench_line.specs.Calls.{answered_at}
 use Rattle.station_theorems.specs.Ticks.{IsIdle, IsSending, IsBreaking}
-use Rattle.frames.specs.Sends.{Start, started_by}
+use Rattle.frames.specs.Sends.{Start, handed_out, started_by}
 use Rattle.frames.specs.ReadAs.{ReadAs}
 use Rattle.line_theorems.specs.Reached.{poll_on, take_idle_on, take_rx_on, line_after, poll, take_idle, take_rx}
 
@@ -41,7 +41,7 @@ frame_in a = frame_of a.bits a.first a.second a.third
 
 -- the half-bits that the encoder writes for that frame
 abbrev pub buffer_in : Sender → HalfBitBuffer
-buffer_in a = (encoded_of a.bits (frame_in a)).buffer
+buffer_in a = handed_out (encoded_of a.bits (frame_in a))
 
 -- The sender is a station of the line. Its frame has 8, 16 or 24 bits, and the frame's data are bytes.
 pub record IsSender (l : BenchLine) (a : Sender) : Type 0 where
@@ -50,8 +50,8 @@ pub record IsSender (l : BenchLine) (a : Sender) : Type 0 where
   pub are_bytes : AreBytes (bytes_of (frame_in a))
 
 -- the line after the start of a sender, and the answer
-abbrev pub started_on : BenchLine → Sender → LineStarted
-started_on l a = started_at l a.number (started_by a.by (station_at l a.number) (buffer_in a))
+abbrev pub started_on : BenchLine → Sender → LineAnswered (Result ⊤ StartError)
+started_on l a = answered_at l a.number (started_by a.by (station_at l a.number) (buffer_in a))
 
 -- ---- a break
 -- A sender sends before tick `clash` and sees the clash there. Then it is in its break. Fourteen ticks later it samples the level `found` and is
@@ -70,15 +70,15 @@ BreaksBy last l number found = (clash : ℕ) × (clash + 14 ≤ last) × Breaks 
 -- ---- what a station then tells
 -- A take hands out the event of a completed capture, which is read as the frame at phase 0.
 abbrev pub HoldsFrame : Frame → ℕ → BenchLine → Type 0
-HoldsFrame frame number l = ((take_rx_on l number).answer ≡ told.Told true) × ReadAs frame (take_rx_on l number).event
+HoldsFrame frame number l = (event : RxCompletedEvent) × ((take_rx_on l number).answer ≡ Ok (Some event)) × ReadAs frame event
 
 -- A poll of the station gives this answer.
 abbrev pub Polls : TxPollResult → ℕ → BenchLine → Type 0
-Polls answer number l = (poll_on l number).answer ≡ polled.Told answer
+Polls answer number l = (poll_on l number).answer ≡ Ok answer
 
 -- A take of the after-break mark tells whether the station found the line idle.
 abbrev pub FindsIdle : Bool → ℕ → BenchLine → Type 0
-FindsIdle idle number l = (take_idle_on l number).answer ≡ told.Told idle
+FindsIdle idle number l = (take_idle_on l number).answer ≡ Ok idle
 
 -- ---- calls in a row
 -- a call of a station, and its answer

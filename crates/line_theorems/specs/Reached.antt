@@ -1,18 +1,18 @@
 -- Document 01, "Bench line" (demand 3): the calls that change a line, and the lines that they lead to from a new one. Assumes nothing.
-use Rattle.std.specs.Prelude.{ℕ, suc, Bool, true, false, List, [], ◌∷◌, ◌≡◌}
+use Rattle.std.specs.Prelude.{ℕ, suc, Bool, true, false, List, [], ◌∷◌, ◌≡◌, Option}
 use Rattle.laws.specs.Pick.{pick}
 use Rattle.halfbits.specs.declared.HalfBitBuffer.{HalfBitBuffer}
 use Rattle.machine.specs.declared.CollisionPolicy.{CollisionPolicy}
+use Rattle.event.specs.declared.RxCompletedEvent.{RxCompletedEvent}
+use Rattle.fsm.specs.declared.TxPollResult.{TxPollResult}
 use Rattle.fsm.specs.Starting.{start_tx_of, start_answer_of}
 use Rattle.fsm.specs.Polling.{polled}
 use Rattle.fsm.specs.Calls.{with_policy, took_idle, acknowledged, took_rx}
 use Rattle.bench_line.specs.declared.BenchLine.{BenchLine}
-use Rattle.bench_line.specs.declared.LinePolled.{LinePolled}
-use Rattle.bench_line.specs.declared.LineTookIdle.{LineTookIdle}
-use Rattle.bench_line.specs.declared.LineTookRx.{LineTookRx}
+use Rattle.bench_line.specs.declared.LineAnswered.{LineAnswered}
 use Rattle.bench_line.specs.Line.{station_at, new_line_of, line_ticked}
 use Rattle.bench_line.specs.Refusals.{is_count}
-use Rattle.bench_line.specs.Calls.{changed_at, started_at, polled_at, took_idle_at, took_rx_at}
+use Rattle.bench_line.specs.Calls.{done, answered_at}
 
 -- The calls that can change a line. All but the tick name a station by its number, and the line need not have that station.
 pub data LineCall : Type 0 where
@@ -26,25 +26,25 @@ pub data LineCall : Type 0 where
   policy : ℕ → CollisionPolicy → LineCall
 
 -- the calls that ask a station, each with its answer and the line after it
-abbrev pub poll_on : BenchLine → ℕ → LinePolled
-poll_on l number = polled_at l number (polled (station_at l number))
+abbrev pub poll_on : BenchLine → ℕ → LineAnswered TxPollResult
+poll_on l number = answered_at l number (polled (station_at l number))
 
-abbrev pub take_idle_on : BenchLine → ℕ → LineTookIdle
-take_idle_on l number = took_idle_at l number (took_idle (station_at l number))
+abbrev pub take_idle_on : BenchLine → ℕ → LineAnswered Bool
+take_idle_on l number = answered_at l number (took_idle (station_at l number))
 
-abbrev pub take_rx_on : BenchLine → ℕ → LineTookRx
-take_rx_on l number = took_rx_at l number (took_rx (station_at l number))
+abbrev pub take_rx_on : BenchLine → ℕ → LineAnswered (Option RxCompletedEvent)
+take_rx_on l number = answered_at l number (took_rx (station_at l number))
 
 -- the line after one call
 unfoldable pub line_after : LineCall → BenchLine → BenchLine
 line_after tick l = line_ticked l
-line_after (start_tx number hb) l = (started_at l number (start_tx_of (station_at l number) hb)).line
-line_after (start_answer number hb) l = (started_at l number (start_answer_of (station_at l number) hb)).line
+line_after (start_tx number hb) l = (answered_at l number (start_tx_of (station_at l number) hb)).line
+line_after (start_answer number hb) l = (answered_at l number (start_answer_of (station_at l number) hb)).line
 line_after (poll number) l = (poll_on l number).line
 line_after (take_idle number) l = (take_idle_on l number).line
 line_after (take_rx number) l = (take_rx_on l number).line
-line_after (acknowledge number) l = (changed_at l number (acknowledged (station_at l number))).line
-line_after (policy number p) l = (changed_at l number (with_policy (station_at l number) p)).line
+line_after (acknowledge number) l = (answered_at l number (done (acknowledged (station_at l number)))).line
+line_after (policy number p) l = (answered_at l number (done (with_policy (station_at l number) p))).line
 
 -- A line is reached if any calls in any order lead to it from a new line of one to four stations.
 pub data ReachedLine : BenchLine → Type 0 where

@@ -3,10 +3,9 @@ use Rattle.std.specs.Prelude.{ℕ, ◌-◌, ◌/◌, ◌%◌, ◌^◌, ◌≤◌
 use Rattle.halfbits.specs.declared.HalfBitBuffer.{HalfBitBuffer}
 use Rattle.halfbits.specs.Wave.{high, low}
 use Rattle.machine.specs.declared.CollisionPolicy.TheVariants.{Auto, On}
-use Rattle.fsm.specs.declared.StartAnswer.TheVariants.{Started}
+use Rattle.std.specs.declared.result.Result.TheVariants as result
 use Rattle.fsm.specs.declared.TxPollResult.TheVariants.{Ok, Collision}
 use Rattle.bench_line.specs.declared.BenchLine.{BenchLine}
-use Rattle.bench_line.specs.declared.LineStart.TheVariants as start
 use Rattle.bench_line.specs.Line.{stations_on, station_at}
 use Rattle.line_theorems.specs.Reached.{ReachedLine}
 use Rattle.line_theorems.specs.OnLine.{ticks_on, AllIdle, Sender, frame_in, buffer_in, IsSender, started_on, BreaksBy, Answer, polls, finds_idle, holds_frame, InARow}
@@ -33,7 +32,7 @@ both_on l a b = (started_on (started_on l a).line b).line
 abbrev pub BothStarted : Type 0
 BothStarted =
     (l : BenchLine) → ReachedLine l → AllIdle l → (a b : Sender) → Pair l a b
-    → ((started_on l a).answer ≡ start.Told Started) × ((started_on (started_on l a).line b).answer ≡ start.Told Started)
+    → ((started_on l a).answer ≡ result.Ok (result.Ok tt)) × ((started_on (started_on l a).line b).answer ≡ result.Ok (result.Ok tt))
 
 -- ---- equal frames
 -- calls in a row: a poll of each sender tells Ok, and then come the calls of `more`

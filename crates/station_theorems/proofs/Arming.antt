@@ -1,4 +1,5 @@
 -- The armed ticks of a started station (specs/OverTicks, Tx). Assumes nothing.
+use Rattle.std.specs.Prelude.{Result, ⊤}
 use Prim.Native.Nat.{ℕ, suc, ◌+◌, ◌/◌, ◌≤◌, ◌<◌}
 use native.Mathlib.Omega.{arith}
 use native.Mathlib.Nat.{zero-add}
@@ -22,9 +23,10 @@ use Rattle.machine.specs.Idle.{idle_tick, entered, silent, fell}
 use Rattle.machine.specs.Sending.{tx_hb_of, armed_step, Step, Arm, Yield, Drive, clash_of, releases_at, tx_step, armed, yielded, driven, after_step}
 use Rattle.machine.specs.Starting.{loaded}
 use Rattle.fsm.specs.declared.DaliBitbangPhy.{DaliBitbangPhy}
-use Rattle.fsm.specs.declared.Started.{Started}
-use Rattle.fsm.specs.declared.StartAnswer.{StartAnswer}
-use Rattle.fsm.specs.declared.StartAnswer.TheVariants as start
+use Rattle.fsm.specs.declared.Answered.{Answered}
+use Rattle.fsm.specs.declared.StartError.{StartError}
+use Rattle.std.specs.declared.result.Result.TheVariants as result
+use Rattle.fsm.specs.declared.StartError.TheVariants.{Busy, BadLength}
 use Rattle.fsm.specs.Station.{with_core}
 use Rattle.fsm.specs.Ticking.{tick_in, tick_of}
 use Rattle.machine.specs.States.{is_idle, hears}
@@ -40,29 +42,29 @@ use Rattle.station_theorems.proofs.Clashes.{clash_told}
 use Rattle.station_theorems.proofs.ByState.{tick_by}
 
 -- ---- a start that is not refused
-is_started : StartAnswer → Bool
-is_started start.Started = true
-is_started start.Busy = false
-is_started start.BadLength = false
+is_started : Result ⊤ StartError → Bool
+is_started (result.Ok tt) = true
+is_started (result.Err Busy) = false
+is_started (result.Err BadLength) = false
 
-refused : (x : StartAnswer) → is_started x ≡ false → x ≡ start.Started → ⊥
+refused : (x : Result ⊤ StartError) → is_started x ≡ false → x ≡ result.Ok tt → ⊥
 unfolding is_started
 refused x e f = false≢true (sym e ∙ ap is_started f)
 
-pub record Taken (s : DaliBitbangPhy) (hb : HalfBitBuffer) (answer allowed : Bool) (x : Started) : Type 0 where
+pub record Taken (s : DaliBitbangPhy) (hb : HalfBitBuffer) (answer allowed : Bool) (x : Answered (Result ⊤ StartError)) : Type 0 where
   pub was : allowed ≡ true
   pub fits : length_fits hb.length ≡ true
   pub left : x.station ≡ loaded_with s hb answer
 
 taken : (s : DaliBitbangPhy) (hb : HalfBitBuffer) (answer allowed : Bool)
-    → (pick {A = Started} allowed (started s hb answer) (started_with s start.Busy)).answer ≡ start.Started
-    → Taken s hb answer allowed (pick {A = Started} allowed (started s hb answer) (started_with s start.Busy))
+    → (pick {A = Answered (Result ⊤ StartError)} allowed (started s hb answer) (started_with s (result.Err Busy))).answer ≡ result.Ok tt
+    → Taken s hb answer allowed (pick {A = Answered (Result ⊤ StartError)} allowed (started s hb answer) (started_with s (result.Err Busy)))
 unfolding started is_started
 taken s hb answer allowed =
-    let P : Started → Type 0 = λ (x : Started). x.answer ≡ start.Started → Taken s hb answer allowed x in
+    let P : Answered (Result ⊤ StartError) → Type 0 = λ (x : Answered (Result ⊤ StartError)). x.answer ≡ result.Ok tt → Taken s hb answer allowed x in
     cases P allowed
-    (λ ok. cases P (length_fits hb.length) (λ fits _. record { was = ok; fits = fits; left = refl }) (λ _ e. absurd (refused start.BadLength refl e)))
-    (λ _ e. absurd (refused start.Busy refl e))
+    (λ ok. cases P (length_fits hb.length) (λ fits _. record { was = ok; fits = fits; left = refl }) (λ _ e. absurd (refused (result.Err BadLength) refl e)))
+    (λ _ e. absurd (refused (result.Err Busy) refl e))
 
 pub some_length : (n : ℕ) → length_fits n ≡ true → 0 < n
 unfolding length_fits
@@ -181,7 +183,7 @@ module _ (s : DaliBitbangPhy) (r : Reached s) (hb : HalfBitBuffer) where
   idle_hears bus.Tx e = absurd (false≢true e)
   idle_hears bus.CollisionTx e = absurd (false≢true e)
 
-  module _ (ok : (start_tx_of s hb).answer ≡ start.Started) where
+  module _ (ok : (start_tx_of s hb).answer ≡ result.Ok tt) where
     pub tx_taken : Taken s hb false (is_idle s.core.bus.bus_state) (start_tx_of s hb)
     unfolding start_tx_of
     tx_taken = taken s hb false (is_idle s.core.bus.bus_state) ok
@@ -198,7 +200,7 @@ module _ (s : DaliBitbangPhy) (r : Reached s) (hb : HalfBitBuffer) where
         let plain : 0 + ticks_in calls ≡ n = omega arith in
         rw plain at on
 
-  module _ (ok : (start_answer_of s hb).answer ≡ start.Started) where
+  module _ (ok : (start_answer_of s hb).answer ≡ result.Ok tt) where
     pub answer_taken : Taken s hb true (hears s.core.bus.bus_state) (start_answer_of s hb)
     unfolding start_answer_of
     answer_taken = taken s hb true (hears s.core.bus.bus_state) ok

@@ -1,4 +1,5 @@
 -- What calls other than ticks leave as it is. Assumes nothing.
+use Rattle.std.specs.Prelude.{Result, ⊤}
 use mathlib.Core.Bool.{Bool, true, false, not, false≢true}
 use mathlib.Core.List.{[]}
 use mathlib.Core.Path.{◌≡◌, refl, sym, ◌∙◌}
@@ -9,9 +10,11 @@ use Rattle.machine.specs.declared.BusState.{BusState}
 use Rattle.machine.specs.declared.BusState.TheVariants as bus
 use Rattle.fsm.specs.Station.{last_event}
 use Rattle.fsm.specs.declared.DaliBitbangPhy.{DaliBitbangPhy}
-use Rattle.fsm.specs.declared.Started.{Started}
-use Rattle.fsm.specs.declared.StartAnswer.TheVariants as start
-use Rattle.fsm.specs.declared.Polled.{Polled}
+use Rattle.fsm.specs.declared.Answered.{Answered}
+use Rattle.fsm.specs.declared.StartError.{StartError}
+use Rattle.std.specs.declared.result.Result.TheVariants as result
+use Rattle.fsm.specs.declared.StartError.TheVariants.{Busy}
+use Rattle.fsm.specs.declared.TxPollResult.{TxPollResult}
 use Rattle.fsm.specs.Starting.{started_with, started, start_tx_of, start_answer_of}
 use Rattle.machine.specs.States.{is_idle, hears, is_tx}
 use Rattle.fsm.specs.Polling.{polled}
@@ -47,7 +50,7 @@ then k l = record {
 polled_same : (s : DaliBitbangPhy) → Same s (polled s).station
 unfolding polled
 polled_same s =
-    let P : Polled → Type 0 = λ (x : Polled). Same s x.station in
+    let P : Answered TxPollResult → Type 0 = λ (x : Answered TxPollResult). Same s x.station in
     cases P s.core.told.tx_yielded
     (λ _. record { runs = refl; bus = refl; rx = refl; tx = refl; bytes = refl; halfbits = refl; last = refl })
     (λ _. cases P (not (eqb s.core.told.tx_collision 0))
@@ -73,16 +76,16 @@ between_same acknowledge s h = acknowledged_same s
 between_same (policy p) s h = record { runs = refl; bus = refl; rx = refl; tx = refl; bytes = refl; halfbits = refl; last = refl }
 
 -- ---- starts that are refused
-pub tx_refused : (s : DaliBitbangPhy) (hb : HalfBitBuffer) → is_idle s.core.bus.bus_state ≡ false → start_tx_of s hb ≡ started_with s start.Busy
+pub tx_refused : (s : DaliBitbangPhy) (hb : HalfBitBuffer) → is_idle s.core.bus.bus_state ≡ false → start_tx_of s hb ≡ started_with s (result.Err Busy)
 unfolding start_tx_of
-tx_refused s hb e = on_false e (started s hb false) (started_with s start.Busy)
+tx_refused s hb e = on_false e (started s hb false) (started_with s (result.Err Busy))
 
-pub answer_refused : (s : DaliBitbangPhy) (hb : HalfBitBuffer) → hears s.core.bus.bus_state ≡ false → start_answer_of s hb ≡ started_with s start.Busy
+pub answer_refused : (s : DaliBitbangPhy) (hb : HalfBitBuffer) → hears s.core.bus.bus_state ≡ false → start_answer_of s hb ≡ started_with s (result.Err Busy)
 unfolding start_answer_of
-answer_refused s hb e = on_false e (started s hb true) (started_with s start.Busy)
+answer_refused s hb e = on_false e (started s hb true) (started_with s (result.Err Busy))
 
 -- whatever holds of the station holds after it
-pub refused_keeps : (P : DaliBitbangPhy → Type 0) (s : DaliBitbangPhy) (x : Started) → x ≡ started_with s start.Busy → P s → P x.station
+pub refused_keeps : (P : DaliBitbangPhy → Type 0) (s : DaliBitbangPhy) (x : Answered (Result ⊤ StartError)) → x ≡ started_with s (result.Err Busy) → P s → P x.station
 refused_keeps P s x e p = rw e p
 
 deaf_idle : (b : BusState) → hears b ≡ false → is_idle b ≡ false

@@ -1,4 +1,5 @@
 -- A break, tick by tick (specs/OverTicks, Collision). Assumes nothing.
+use Rattle.std.specs.Prelude.{Result, ⊤}
 use Prim.Native.Nat.{ℕ, suc, ◌+◌, ◌%◌, ◌≤◌, ◌<◌}
 use native.Mathlib.Omega.{arith}
 use native.Mathlib.Nat.{zero-add}
@@ -19,7 +20,8 @@ use Rattle.machine.specs.Idle.{idle_tick, entered, silent, fell}
 use Rattle.machine.specs.Sending.{Step, Arm, Yield, End, Clash, Hold, Drive, tx_step, armed, yielded, clashed, held, driven, after_step, tx_tick}
 use Rattle.machine.specs.Collision.{broke, collision_tick}
 use Rattle.fsm.specs.declared.DaliBitbangPhy.{DaliBitbangPhy}
-use Rattle.fsm.specs.declared.Started.{Started}
+use Rattle.fsm.specs.declared.Answered.{Answered}
+use Rattle.fsm.specs.declared.StartError.{StartError}
 use Rattle.fsm.specs.declared.TxPollResult.TheVariants.{Ok}
 use Rattle.fsm.specs.Station.{with_core}
 use Rattle.fsm.specs.Ticking.{tick_in, tick_of}
@@ -131,7 +133,7 @@ polled_ok t calm e = go (eqb t.core.told.tx_collision 0) refl
 refused : (t : DaliBitbangPhy) → IsBreaking t → (hb : HalfBitBuffer) → (start_answer_number (start_tx_of t hb).answer ≡ 7) × (start_answer_number (start_answer_of t hb).answer ≡ 7)
 unfolding is_idle hears
 refused t e hb =
-    (ap (λ (x : Started). start_answer_number x.answer) (tx_refused t hb (ap is_idle e)), ap (λ (x : Started). start_answer_number x.answer) (answer_refused t hb (ap hears e)))
+    (ap (λ (x : Answered (Result ⊤ StartError)). start_answer_number x.answer) (tx_refused t hb (ap is_idle e)), ap (λ (x : Answered (Result ⊤ StartError)). start_answer_number x.answer) (answer_refused t hb (ap hears e)))
 
 -- nothing is yielded while it lasts
 calm : (t : DaliBitbangPhy) → Reached t → IsBreaking t → t.core.told.tx_yielded ≡ false

@@ -1,4 +1,5 @@
 -- Which ticks are a clash (specs/OverTicks, Tx). Assumes nothing.
+use Rattle.std.specs.Prelude.{Result, ⊤}
 use Prim.Native.Nat.{ℕ, ◌+◌, ◌%◌, ◌≤◌, ◌<◌, min}
 use native.Mathlib.Omega.{arith}
 use native.Mathlib.Nat.{not-suc-le-zero}
@@ -25,8 +26,10 @@ use Rattle.machine.specs.Sending.{Step, Arm, Yield, End, Clash, Hold, Drive, wat
 use Rattle.machine.specs.Collision.{broke, collision_tick}
 use Rattle.machine.specs.Starting.{loaded}
 use Rattle.fsm.specs.declared.DaliBitbangPhy.{DaliBitbangPhy}
-use Rattle.fsm.specs.declared.Started.{Started}
-use Rattle.fsm.specs.declared.StartAnswer.TheVariants as start
+use Rattle.fsm.specs.declared.Answered.{Answered}
+use Rattle.fsm.specs.declared.StartError.{StartError}
+use Rattle.std.specs.declared.result.Result.TheVariants as result
+use Rattle.fsm.specs.declared.StartError.TheVariants.{Busy}
 use Rattle.fsm.specs.declared.TxPollResult.TheVariants.{Collision}
 use Rattle.fsm.specs.Station.{new_core, new_station, with_core}
 use Rattle.fsm.specs.Ticking.{tick_of}
@@ -88,10 +91,10 @@ tick_steady s high bus.Tx e h = rw (tick_tx s high e) (step_steady _ (runs_count
 tick_steady s high bus.CollisionTx e h = rw (tick_break s high e) (break_steady (runs_counted s.core high) high e)
 
 start_steady : (s : DaliBitbangPhy) (allowed : Bool) (hb : HalfBitBuffer) (answer : Bool) → Steady s.core
-    → Steady (pick {A = Started} allowed (started s hb answer) (started_with s start.Busy)).station.core
+    → Steady (pick {A = Answered (Result ⊤ StartError)} allowed (started s hb answer) (started_with s (result.Err Busy))).station.core
 unfolding started loaded_with loaded
 start_steady s allowed hb answer h =
-    let P : Started → Type 0 = λ (x : Started). Steady x.station.core in
+    let P : Answered (Result ⊤ StartError) → Type 0 = λ (x : Answered (Result ⊤ StartError)). Steady x.station.core in
     cases P allowed (λ _. cases P (length_fits hb.length) (λ _ _ none. absurd (not-suc-le-zero none)) (λ _. h)) (λ _. h)
 
 same_steady : (s t : DaliBitbangPhy) → Same s t → Steady s.core → Steady t.core

@@ -1,4 +1,5 @@
 -- The idle count where a station becomes Idle, and the run lengths (specs/OverTicks, the counts). Assumes nothing.
+use Rattle.std.specs.Prelude.{Result, ⊤}
 use Prim.Native.Nat.{ℕ, zero, suc, ◌+◌, ◌%◌, ◌<◌, min}
 use native.Mathlib.Omega.{arith}
 use native.Mathlib.Nat.{add-zero}
@@ -22,8 +23,10 @@ use Rattle.machine.specs.Sending.{Step, Arm, Yield, End, Clash, Hold, Drive, arm
 use Rattle.machine.specs.Collision.{broke, collision_tick}
 use Rattle.machine.specs.Starting.{loaded}
 use Rattle.fsm.specs.declared.DaliBitbangPhy.{DaliBitbangPhy}
-use Rattle.fsm.specs.declared.Started.{Started}
-use Rattle.fsm.specs.declared.StartAnswer.TheVariants as start
+use Rattle.fsm.specs.declared.Answered.{Answered}
+use Rattle.fsm.specs.declared.StartError.{StartError}
+use Rattle.std.specs.declared.result.Result.TheVariants as result
+use Rattle.fsm.specs.declared.StartError.TheVariants.{Busy}
 use Rattle.fsm.specs.Ticking.{tick_of}
 use Rattle.fsm.specs.Starting.{length_fits, started_with, loaded_with, started, start_tx_of, start_answer_of}
 use Rattle.machine.specs.States.{is_idle, hears}
@@ -105,10 +108,10 @@ tick_runs s high bus.Tx e = rw (tick_tx s high e) (step_runs _ (runs_counted s.c
 tick_runs s high bus.CollisionTx e = rw (tick_break s high e) (break_runs (runs_counted s.core high) high)
 
 start_runs : (s : DaliBitbangPhy) (allowed : Bool) (hb : HalfBitBuffer) (answer : Bool)
-    → (pick {A = Started} allowed (started s hb answer) (started_with s start.Busy)).station.core.runs ≡ s.core.runs
+    → (pick {A = Answered (Result ⊤ StartError)} allowed (started s hb answer) (started_with s (result.Err Busy))).station.core.runs ≡ s.core.runs
 unfolding started loaded_with loaded
 start_runs s allowed hb answer =
-    let P : Started → Type 0 = λ (x : Started). x.station.core.runs ≡ s.core.runs in
+    let P : Answered (Result ⊤ StartError) → Type 0 = λ (x : Answered (Result ⊤ StartError)). x.station.core.runs ≡ s.core.runs in
     cases P allowed (λ _. cases P (length_fits hb.length) (λ _. refl) (λ _. refl)) (λ _. refl)
 
 -- ---- n ticks of one level

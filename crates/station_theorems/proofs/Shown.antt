@@ -29,7 +29,7 @@ use Rattle.fsm.specs.declared.TxPollResult.TheVariants.{Yielded}
 use Rattle.fsm.specs.Station.{new_core, new_station}
 use Rattle.fsm.specs.Ticking.{tick_in, tick_of}
 use Rattle.machine.specs.States.{is_tx, is_idle, hears}
-use Rattle.fsm.specs.declared.StartAnswer.TheVariants as start
+use Rattle.std.specs.declared.result.Result.TheVariants as result
 use Rattle.fsm.specs.Polling.{polled}
 use Rattle.fsm.specs.Starting.{length_fits, loaded_with, started, start_tx_of, start_answer_of}
 use Rattle.station_theorems.specs.Calls.{Call, tick, start_tx, poll, after, after_all, is_answer, NoAnswer, Reached, new, called}
@@ -107,8 +107,8 @@ waits hb = run (times 3 high (start_tx hb ∷ []))
 record Asked : Type 0 where
   none_yet : NoLow new_station
   one_yet : OneLow (run (low ∷ []))
-  frame_taken : (start_tx_of new_station released).answer ≡ start.Started
-  answer_taken : (start_answer_of (run (times 2 low [])) released).answer ≡ start.Started
+  frame_taken : (start_tx_of new_station released).answer ≡ result.Ok tt
+  answer_taken : (start_answer_of (run (times 2 low [])) released).answer ≡ result.Ok tt
   -- a half-bit that isn't the last, its second tick and a poll, and a low third tick
   half_bit : Begins (waits released) true
   not_last : begun (tick_of (waits released) true) < to_send (waits released)

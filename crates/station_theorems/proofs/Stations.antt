@@ -1,4 +1,5 @@
 -- What every call keeps of a station. Assumes nothing.
+use Rattle.std.specs.Prelude.{Result, ⊤}
 use Prim.Native.Nat.{ℕ, ◌+◌, ◌%◌, ◌≤◌, min}
 use native.Mathlib.Omega.{arith}
 use mathlib.Core.Bool.{Bool, true, false, not, false≢true}
@@ -24,9 +25,11 @@ use Rattle.machine.specs.Sending.{Step, Arm, Yield, End, Clash, Hold, Drive, tx_
 use Rattle.machine.specs.Collision.{broke, collision_tick}
 use Rattle.machine.specs.Starting.{loaded}
 use Rattle.fsm.specs.declared.DaliBitbangPhy.{DaliBitbangPhy}
-use Rattle.fsm.specs.declared.Started.{Started}
-use Rattle.fsm.specs.declared.StartAnswer.TheVariants.{Busy}
-use Rattle.fsm.specs.declared.Polled.{Polled}
+use Rattle.fsm.specs.declared.Answered.{Answered}
+use Rattle.fsm.specs.declared.StartError.{StartError}
+use Rattle.std.specs.declared.result.Result.TheVariants.{Err}
+use Rattle.fsm.specs.declared.StartError.TheVariants.{Busy}
+use Rattle.fsm.specs.declared.TxPollResult.{TxPollResult}
 use Rattle.fsm.specs.Station.{last_count, new_core, new_station, with_core}
 use Rattle.fsm.specs.Ticking.{tick_in, tick_of}
 use Rattle.machine.specs.States.{is_idle, hears, is_tx, is_completed}
@@ -114,10 +117,10 @@ unfolding length_fits
 fits n e = leb-true n 54 (parts (not (eqb n 0)) (leb n 54) e).1
 
 module _ (s : DaliBitbangPhy) (w : Whole s) where
-  start_whole : (allowed : Bool) (hb : HalfBitBuffer) (answer : Bool) → Whole (pick {A = Started} allowed (started s hb answer) (started_with s Busy)).station
+  start_whole : (allowed : Bool) (hb : HalfBitBuffer) (answer : Bool) → Whole (pick {A = Answered (Result ⊤ StartError)} allowed (started s hb answer) (started_with s (Err Busy))).station
   unfolding started loaded_with loaded tx_hb_of
   start_whole allowed hb answer =
-      let P : Started → Type 0 = λ (x : Started). Whole x.station in
+      let P : Answered (Result ⊤ StartError) → Type 0 = λ (x : Answered (Result ⊤ StartError)). Whole x.station in
       cases P allowed
       (λ _. cases P (length_fits hb.length)
       (λ ok. record { core = loaded_good s.core answer w.core.any; loads = fits hb.length ok; counts = λ e. absurd (not_empty e) })
@@ -127,7 +130,7 @@ module _ (s : DaliBitbangPhy) (w : Whole s) where
   poll_whole : Whole (polled s).station
   unfolding polled
   poll_whole =
-      let P : Polled → Type 0 = λ (x : Polled). Whole x.station in
+      let P : Answered TxPollResult → Type 0 = λ (x : Answered TxPollResult). Whole x.station in
       cases P s.core.told.tx_yielded
       (λ _. with_core_lem s _ w (telling_good s.core w.core _ _ _ (omega arith) (λ m. m) (λ e. absurd (false≢true e))) (λ m. m))
       (λ _. cases P (not (eqb s.core.told.tx_collision 0))

@@ -13,7 +13,7 @@ use Rattle.machine.specs.declared.RxState.TheVariants.{Completed}
 use Rattle.capture.specs.Samples.{bytes_of}
 use Rattle.machine.specs.Sending.{half_bit_in, tx_hb_of, releases_at}
 use Rattle.fsm.specs.declared.DaliBitbangPhy.{DaliBitbangPhy}
-use Rattle.fsm.specs.declared.StartAnswer.TheVariants as start
+use Rattle.std.specs.declared.result.Result.TheVariants as result
 use Rattle.fsm.specs.declared.TxPollResult.TheVariants.{Ok, Collision, Yielded}
 use Rattle.fsm.specs.Station.{last_bytes, last_count, last_silence}
 use Rattle.fsm.specs.Ticking.{tick_of}
@@ -171,14 +171,14 @@ pub record Yields (t : DaliBitbangPhy) : Type 0 where
 -- So it is for a frame that `start_tx` starts, while the line is high. If an armed tick samples low, the station yields.
 abbrev pub FrameArmed : Type 0
 FrameArmed =
-    (s : DaliBitbangPhy) → Reached s → (hb : HalfBitBuffer) → (start_tx_of s hb).answer ≡ start.Started
+    (s : DaliBitbangPhy) → Reached s → (hb : HalfBitBuffer) → (start_tx_of s hb).answer ≡ result.Ok tt
     → (calls : List Call) (n : ℕ) → levels_in calls ≡ replicate n high
     → ArmedFor hb n (after_all calls (start_tx_of s hb).station) × (n < 3 → Yields (tick_of (after_all calls (start_tx_of s hb).station) low))
 
 -- So it is for an answer that `start_answer` starts, whatever the line does. If an armed tick samples low, the station goes on sending.
 abbrev pub AnswerArmed : Type 0
 AnswerArmed =
-    (s : DaliBitbangPhy) → Reached s → (hb : HalfBitBuffer) → (start_answer_of s hb).answer ≡ start.Started
+    (s : DaliBitbangPhy) → Reached s → (hb : HalfBitBuffer) → (start_answer_of s hb).answer ≡ result.Ok tt
     → (calls : List Call)
     → ArmedFor hb (ticks_in calls) (after_all calls (start_answer_of s hb).station)
     × (ticks_in calls < 3 → IsSending (tick_of (after_all calls (start_answer_of s hb).station) low))
@@ -254,8 +254,8 @@ pub record OnTime (hb : HalfBitBuffer) (n : ℕ) (t : DaliBitbangPhy) : Type 0 w
 
 -- the station after a start that isn't refused
 pub data Starts (s : DaliBitbangPhy) (hb : HalfBitBuffer) : DaliBitbangPhy → Type 0 where
-  a_frame : (start_tx_of s hb).answer ≡ start.Started → Starts s hb (start_tx_of s hb).station
-  an_answer : (start_answer_of s hb).answer ≡ start.Started → Starts s hb (start_answer_of s hb).station
+  a_frame : (start_tx_of s hb).answer ≡ result.Ok tt → Starts s hb (start_tx_of s hb).station
+  an_answer : (start_answer_of s hb).answer ≡ result.Ok tt → Starts s hb (start_answer_of s hb).station
 
 -- Every reached station sends at these ticks, a frame or an answer.
 abbrev pub SendsOnTime : Type 0
@@ -277,7 +277,7 @@ pub record InBreak (ticks : ℕ) (t : DaliBitbangPhy) : Type 0 where
 -- The break is over and the station is Idle. Its after-break mark tells whether the line was high. If the line was low, that tick counts as Idle's
 -- first low.
 pub record Broke (sample : Bool) (t : DaliBitbangPhy) : Type 0 where
-  pub mark : (took_idle t).idle ≡ sample
+  pub mark : (took_idle t).answer ≡ sample
   pub found_low : sample ≡ low → OneLow t
   pub found_high : sample ≡ high → NoLow t
 
