@@ -2,12 +2,9 @@
 use crate::bytes::ByteString;
 use crate::commands::Command;
 use crate::reply::{Refusal, Reply};
-use bench_line::{
-    BenchLine, LineChanged, LineDone, LineNew, LinePoll, LineStart, LineStarted, LineTold,
-};
-use event::RxCompletedEvent;
-use fsm::{DaliBitbangPhy, StartAnswer, Started};
-use halfbits::{EncodeAnswer, HalfBitBuffer};
+use bench_line::{BenchLine, LineAnswered, LineError};
+use fsm::{Answered, DaliBitbangPhy};
+use halfbits::{EncodeError, HalfBitBuffer};
 use lengths::BitLengths;
 use search::BestPhaseSearch;
 
@@ -20,11 +17,12 @@ pub(crate) struct Kept {
 
 impl Kept {
     // Before the first `bsnew` the search prefers no length, and before the first `line` the bench line has one station.
+    #[tactic(auto, unfolding(bench_line::specs::Calls::made_line, bench_line::specs::Refusals::is_count, laws::specs::Pick::pick))]
     pub(crate) fn new() -> Kept {
         Kept {
             search: BestPhaseSearch::new(BitLengths::of(&[])),
             station: DaliBitbangPhy::new(),
-            bench: BenchLine::new(1).line,
+            bench: BenchLine::new(1).unwrap(),
         }
     }
 
@@ -38,30 +36,16 @@ impl Kept {
 
     fn run(&mut self, command: Command) -> Result<Reply, Refusal> {
         Ok(match command {
-            Command::New => self.keep(DaliBitbangPhy::new()),
-            Command::Policy(policy) => self.keep(self.station.set_collision_policy(policy)),
+            Command::New => self.put(DaliBitbangPhy::new()),
+            Command::Policy(policy) => self.put(self.station.set_collision_policy(policy)),
             Command::Tick(high) => self.tick(high),
             Command::Ticks(levels, count) => self.ticks(levels, count),
-            Command::StartTx(halfbits) => self.keep_started(self.station.start_tx(halfbits))?,
-            Command::StartAnswer(halfbits) => self.keep_started(
-                self.station.start_answer(halfbits),
-            )?,
-            Command::Poll => {
-                let polled = self.station.poll_tx_state();
-                self.station = polled.station;
-                Reply::Poll(polled.answer)
-            }
-            Command::TakeIdle => {
-                let took = self.station.take_idle_after_break();
-                self.station = took.station;
-                Reply::Flag(took.idle)
-            }
-            Command::TakeRx => {
-                let took = self.station.take_completed_rx_event();
-                self.station = took.station;
-                Reply::Event(event_if(took.completed, took.event))
-            }
-            Command::Ack => self.keep(self.station.acknowledge_rx_frame()),
+            Command::StartTx(halfbits) => done(self.keep(self.station.start_tx(halfbits))?),
+            Command::StartAnswer(halfbits) => done(self.keep(self.station.start_answer(halfbits))?),
+            Command::Poll => Reply::Poll(self.keep(self.station.poll_tx_state())),
+            Command::TakeIdle => Reply::Flag(self.keep(self.station.take_idle_after_break())),
+            Command::TakeRx => Reply::Event(self.keep(self.station.take_completed_rx_event())),
+            Command::Ack => self.put(self.station.acknowledge_rx_frame()),
             Command::State => Reply::State(self.station),
             Command::Weight(sample) => Reply::Number(weight::sample_weight(sample) as u16),
             Command::Phase(most, phase, window) => Reply::Phase(window.decode_phase(most, phase)),
@@ -81,7 +65,7 @@ impl Kept {
             Command::Backward(event) => Reply::Backward(rx_decode::decode_backward_byte(event)),
             Command::LowRun(event) => Reply::Number(rx_decode::longest_dominant_run_ticks(event)),
             Command::Held(event) => Reply::Flag(rx_decode::is_line_held(event)),
-            Command::Encode(bits, bytes) => encode(bits, bytes)?,
+            Command::Encode(bits, bytes) => Reply::Encoded(encode(bits, bytes)?),
             Command::EncodeInto(bits, bytes, buffer) => encode_into(bits, bytes, buffer),
             Command::Better(preferred, candidate, current) => {
                 Reply::Flag(search::is_better_decode(candidate, current, preferred))
@@ -89,33 +73,56 @@ impl Kept {
             Command::Lengths(lengths, length) => {
                 Reply::Flag(BitLengths::of(lengths.as_slice()).contains(length))
             }
-            Command::Settle(pre_idle, lead) => Reply::Number(fsm::settle_ticks_on_wire(
-                pre_idle, lead,
+            Command::Settle(silence, lead) => Reply::Number(fsm::settle_ticks_on_wire(
+                silence, lead,
             )),
             Command::Gate(release) => Reply::Number(fsm::restart_gate_for(release) as u16),
-            Command::Line(count) => self.new_line(count)?,
+            Command::Line(count) => {
+                self.bench = BenchLine::new(count)?;
+                Reply::Ok
+            }
             Command::LineTicks(count) => self.line_ticks(count),
             Command::LineLevel => Reply::Level(self.bench.level()),
             Command::LinePolicy(number, policy) => {
-                self.keep_changed(self.bench.set_collision_policy(number, policy))?
+                done(self.keep_line(self.bench.set_collision_policy(number, policy))?)
             }
             Command::LineStartTx(number, halfbits) => {
-                self.keep_line_started(self.bench.start_tx(number, halfbits))?
+                done(self.keep_line(self.bench.start_tx(number, halfbits))??)
             }
             Command::LineStartAnswer(number, halfbits) => {
-                self.keep_line_started(self.bench.start_answer(number, halfbits))?
+                done(self.keep_line(self.bench.start_answer(number, halfbits))??)
             }
-            Command::LinePoll(number) => self.line_poll(number)?,
-            Command::LineTakeIdle(number) => self.line_take_idle(number)?,
-            Command::LineTakeRx(number) => self.line_take_rx(number)?,
-            Command::LineAck(number) => self.keep_changed(self.bench.acknowledge_rx_frame(number))?,
-            Command::LineState(number) => self.line_state(number)?,
+            Command::LinePoll(number) => {
+                Reply::Poll(self.keep_line(self.bench.poll_tx_state(number))?)
+            }
+            Command::LineTakeIdle(number) => {
+                Reply::Flag(self.keep_line(self.bench.take_idle_after_break(number))?)
+            }
+            Command::LineTakeRx(number) => {
+                Reply::Event(self.keep_line(self.bench.take_completed_rx_event(number))?)
+            }
+            Command::LineAck(number) => done(self.keep_line(
+                self.bench.acknowledge_rx_frame(number),
+            )?),
+            Command::LineState(number) => Reply::State(self.bench.station(number)?),
         })
     }
 
-    fn keep(&mut self, station: DaliBitbangPhy) -> Reply {
+    fn put(&mut self, station: DaliBitbangPhy) -> Reply {
         self.station = station;
         Reply::Ok
+    }
+
+    // Keeps the station or the line that a call handed back, and hands on what it answered. A refused call hands back what it was given.
+
+    fn keep<T>(&mut self, answered: Answered<T>) -> T {
+        self.station = answered.station;
+        answered.answer
+    }
+
+    fn keep_line<T>(&mut self, answered: LineAnswered<T>) -> Result<T, LineError> {
+        self.bench = answered.line;
+        answered.answer
     }
 
     // The tick has three forms: by value, in place, which firmware calls, and copied out and back. A `tick` line takes the one in place, and a
@@ -140,23 +147,6 @@ impl Kept {
         }))
     }
 
-    fn keep_started(&mut self, started: Started) -> Result<Reply, Refusal> {
-        self.station = started.station;
-        start_reply(started.answer)
-    }
-
-    // If the count is refused, the line before stays.
-    fn new_line(&mut self, count: u8) -> Result<Reply, Refusal> {
-        let made = BenchLine::new(count);
-        match made.answer {
-            LineNew::Made => {
-                self.bench = made.line;
-                Ok(Reply::Ok)
-            }
-            LineNew::BadCount => Err(Refusal(10)),
-        }
-    }
-
     fn line_ticks(&mut self, count: u16) -> Reply {
         let bench = &mut self.bench;
         Reply::LevelWave(ByteString::of_levels(count, |_| {
@@ -164,86 +154,19 @@ impl Kept {
             (*bench).level()
         }))
     }
-
-    fn keep_changed(&mut self, changed: LineChanged) -> Result<Reply, Refusal> {
-        self.bench = changed.line;
-        match changed.answer {
-            LineDone::Done => Ok(Reply::Ok),
-            LineDone::NoStation => Err(Refusal(9)),
-        }
-    }
-
-    fn keep_line_started(&mut self, started: LineStarted) -> Result<Reply, Refusal> {
-        self.bench = started.line;
-        match started.answer {
-            LineStart::Told(answer) => start_reply(answer),
-            LineStart::NoStation => Err(Refusal(9)),
-        }
-    }
-
-    fn line_poll(&mut self, number: u8) -> Result<Reply, Refusal> {
-        let polled = self.bench.poll_tx_state(number);
-        self.bench = polled.line;
-        match polled.answer {
-            LinePoll::Told(result) => Ok(Reply::Poll(result)),
-            LinePoll::NoStation => Err(Refusal(9)),
-        }
-    }
-
-    fn line_take_idle(&mut self, number: u8) -> Result<Reply, Refusal> {
-        let took = self.bench.take_idle_after_break(number);
-        self.bench = took.line;
-        match took.answer {
-            LineTold::Told(idle) => Ok(Reply::Flag(idle)),
-            LineTold::NoStation => Err(Refusal(9)),
-        }
-    }
-
-    fn line_take_rx(&mut self, number: u8) -> Result<Reply, Refusal> {
-        let took = self.bench.take_completed_rx_event(number);
-        self.bench = took.line;
-        match took.answer {
-            LineTold::Told(completed) => Ok(Reply::Event(event_if(completed, took.event))),
-            LineTold::NoStation => Err(Refusal(9)),
-        }
-    }
-
-    fn line_state(&mut self, number: u8) -> Result<Reply, Refusal> {
-        let seen = self.bench.station(number);
-        match seen.answer {
-            LineDone::Done => Ok(Reply::State(seen.station)),
-            LineDone::NoStation => Err(Refusal(9)),
-        }
-    }
 }
 
-fn event_if(completed: bool, event: RxCompletedEvent) -> Option<RxCompletedEvent> {
-    if completed { Some(event) } else { None }
+// The reply to a call that answers nothing but that it was done.
+fn done(_: ()) -> Reply {
+    Reply::Ok
 }
 
-fn start_reply(answer: StartAnswer) -> Result<Reply, Refusal> {
-    match answer {
-        StartAnswer::Started => Ok(Reply::Ok),
-        StartAnswer::Busy => Err(Refusal(7)),
-        StartAnswer::BadLength => Err(Refusal(8)),
-    }
-}
-
-fn encode(bits: u8, [first, second, third]: [u8; 3]) -> Result<Reply, Refusal> {
-    let encoded = HalfBitBuffer::encode(bits, first, second, third);
-    match encoded.answer {
-        EncodeAnswer::Length(_) => Ok(Reply::Encoded(encoded.buffer)),
-        _ => Err(Refusal(5)),
-    }
+fn encode(bits: u8, [first, second, third]: [u8; 3]) -> Result<HalfBitBuffer, EncodeError> {
+    HalfBitBuffer::encode(bits, first, second, third)
 }
 
 // The lent buffer has just the bytes of HEX.
 fn encode_into(bits: u8, [first, second, third]: [u8; 3], mut buffer: ByteString) -> Reply {
     let answer = halfbits::encode_into(bits, first, second, third, buffer.as_mut_slice());
-    let length = match answer {
-        EncodeAnswer::Length(length) => Ok(length),
-        EncodeAnswer::BadBitCount => Err(Refusal(5)),
-        EncodeAnswer::ShortBuffer => Err(Refusal(6)),
-    };
-    Reply::EncodedInto(length, buffer)
+    Reply::EncodedInto(answer, buffer)
 }

@@ -1,8 +1,9 @@
 // The reply to a command, and how it is written.
 use crate::bytes::{ByteString, Hex};
+use bench_line::LineError;
 use event::RxCompletedEvent;
-use fsm::{BusState, DaliBitbangPhy, RxState, TxPollResult};
-use halfbits::HalfBitBuffer;
+use fsm::{BusState, DaliBitbangPhy, RxState, StartError, TxPollResult};
+use halfbits::{EncodeError, HalfBitBuffer};
 use rx_decode::{SniffedDecode, SniffedFrame};
 use search::{BestPhaseSearch, PhaseSearch, SearchAnswer};
 use std::fmt;
@@ -10,7 +11,25 @@ use window::{PhaseDecode, SampleWindow};
 
 // The number of a refusal.
 #[derive(Clone, Copy)]
-pub(crate) struct Refusal(pub(crate) u8);
+pub(crate) struct Refusal(u8);
+
+impl From<EncodeError> for Refusal {
+    fn from(error: EncodeError) -> Refusal {
+        Refusal(error as u8)
+    }
+}
+
+impl From<StartError> for Refusal {
+    fn from(error: StartError) -> Refusal {
+        Refusal(error as u8)
+    }
+}
+
+impl From<LineError> for Refusal {
+    fn from(error: LineError) -> Refusal {
+        Refusal(error as u8)
+    }
+}
 
 #[derive(Clone, Copy)]
 pub(crate) enum Reply {
@@ -35,7 +54,8 @@ pub(crate) enum Reply {
     Sniffed(SniffedDecode),
     Backward(Option<u8>),
     Encoded(HalfBitBuffer),
-    EncodedInto(Result<u8, Refusal>, ByteString),
+    // the length or the refusal, and the lent buffer
+    EncodedInto(Result<u8, EncodeError>, ByteString),
 }
 
 // A value of the crates below, as the protocol writes it.
@@ -71,8 +91,8 @@ impl fmt::Display for Reply {
                 "{length} {}",
                 Hex(buffer.as_slice())
             ),
-            Reply::EncodedInto(Err(refusal), buffer) => {
-                write!(f, "{refusal} {}", Hex(buffer.as_slice()))
+            Reply::EncodedInto(Err(error), buffer) => {
+                write!(f, "{} {}", Refusal::from(error), Hex(buffer.as_slice()))
             }
         }
     }
@@ -222,12 +242,7 @@ impl fmt::Display for Shown<SniffedDecode> {
 
 fn found_word(step: PhaseSearch) -> &'static str {
     match step {
-        PhaseSearch::Done(
-            SearchAnswer {
-                found: Some(_),
-                ..
-            },
-        ) => "found ",
+        PhaseSearch::Done(SearchAnswer { found: Some(_), .. }) => "found ",
         _ => "",
     }
 }
