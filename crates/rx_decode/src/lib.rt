@@ -92,12 +92,9 @@ pub fn longest_dominant_run_ticks(ev: RxCompletedEvent) -> u16
     ensures { result ≡ low_run_of ev }
 {
     let n = window::samples_kept(ev.sample_count);
-    let samples = ev.samples;
     let mut runs = LowRuns { best: 0, run: 0 };
-    let mut i: usize = 0;
-    while i < n {
-        runs = runs.after_byte(samples[i]);
-        i += 1;
+    for byte in &ev.samples[..n] {
+        runs = runs.after_byte(*byte);
     }
     runs.best
 }
@@ -117,19 +114,16 @@ struct LowRuns {
 
 impl LowRuns {
     // One more tick. Its level is 0 for low.
+    #[tactic(auto, unfolding(crate::specs::Code::after_tick, laws::specs::Pick::pick))]
     fn after_tick(self, level: u8) -> LowRuns
         requires { self.run ≤ 511 }
         ensures { result ≡ after_tick self level }
     {
-        let best = self.best;
-        if level == 0 {
-            let run = self.run + 1;
-            if best < run {
-                return LowRuns { best: run, run };
-            }
-            return LowRuns { best, run };
+        let run = if level == 0 { self.run + 1 } else { 0 };
+        LowRuns {
+            best: self.best.max(run),
+            run,
         }
-        LowRuns { best, run: 0 }
     }
 
     // Eight more ticks, the top bit first. A run goes on from one byte into the next.
@@ -138,10 +132,8 @@ impl LowRuns {
         ensures { result ≡ after_byte self byte }
     {
         let mut runs = self;
-        let mut at: u8 = 0;
-        while at < 8 {
+        for at in 0..8u8 {
             runs = runs.after_tick((byte >> (7 - at)) % 2);
-            at += 1;
         }
         runs
     }
@@ -155,6 +147,7 @@ fn byte_of(data: u64, index: u8) -> u8
     ((data >> (56 - index * 8)) % 256) as u8
 }
 
+#[tactic(auto, unfolding(crate::specs::Reading::frame_of, laws::specs::Pick::pick))]
 fn sniffed_from_decoded(dlen: u8, out: u64) -> SniffedFrame
     ensures { result ≡ frame_of dlen out }
 {
