@@ -1,11 +1,12 @@
 -- An event that is handed what a search found is read as the event that searches. Assumes nothing.
 use Prim.Native.Nat.{ℕ}
 use mathlib.Core.Path.{◌≡◌, refl}
+use Rattle.std.specs.Prelude.{Option}
 use Rattle.lengths.specs.Lengths.{sniffed_lengths}
 use Rattle.window.specs.declared.SampleWindow.{SampleWindow}
+use Rattle.window.specs.declared.PhaseDecode.{PhaseDecode}
 use Rattle.window.specs.Window.{window_of}
 use Rattle.search.specs.declared.BestPhaseSearch.{BestPhaseSearch}
-use Rattle.search.specs.declared.Found.{Found}
 use Rattle.search.specs.declared.SearchAnswer.{SearchAnswer}
 use Rattle.search.specs.Search.{new_of, run_of}
 use Rattle.event.specs.declared.RxCompletedEvent.{RxCompletedEvent}
@@ -23,12 +24,12 @@ module _ (capture : Capture) where
   searched = refl
 
   -- what the event is handed is what it holds
-  held : (found : Found) → found_in (held_event capture found) ≡ found
+  held : (found : Option PhaseDecode) → found_in (held_event capture found) ≡ found
   unfolding held_event found_or
   held found = refl
 
   -- a low run is of the samples alone
-  same_run : (found : Found) → low_run_of (held_event capture found) ≡ low_run_of (event_for capture)
+  same_run : (found : Option PhaseDecode) → low_run_of (held_event capture found) ≡ low_run_of (event_for capture)
   unfolding held_event event_for event_of ticks_of
   same_run found = refl
 

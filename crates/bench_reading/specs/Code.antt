@@ -1,12 +1,13 @@
 -- What the private function promises. No public promise cites this file. Assumes nothing.
-use Rattle.search.specs.declared.Found.{Found}
 use Rattle.event.specs.declared.IsrDecode.TheVariants.{Decoded}
 use Rattle.event.specs.declared.RxCompletedEvent.{RxCompletedEvent}
+use Rattle.std.specs.Prelude.{Option}
+use Rattle.window.specs.declared.PhaseDecode.{PhaseDecode}
 use Rattle.bench_text.specs.declared.Capture.{Capture}
 use Rattle.bench_reading.specs.Reading.{event_for}
 
 -- the event of a capture, which holds what a finished search found
-unfoldable pub held_event : Capture → Found → RxCompletedEvent
+unfoldable pub held_event : Capture → Option PhaseDecode → RxCompletedEvent
 held_event capture found =
     let event = event_for capture in
     record {

@@ -9,8 +9,8 @@ use bench_text::Capture;
 use event::{IsrDecode, RxCompletedEvent};
 use lengths::SNIFFED_BIT_LENGTHS;
 use rx_decode::{SniffedDecode, SniffedFrame};
-use search::{BestPhaseSearch, Found};
-use window::SampleWindow;
+use search::BestPhaseSearch;
+use window::{PhaseDecode, SampleWindow};
 
 #[derive(Clone, Copy)]
 pub struct Reading {
@@ -20,54 +20,38 @@ pub struct Reading {
 }
 
 // The search runs here, since the reading tells its steps. The event is given what the search found, so the sniffed reading does not search again.
+#[tactic(auto, using(crate::proofs::Handed::reading, lengths::proofs::Masks::sniffed_mask))]
 pub fn read_capture(capture: Capture) -> Reading
     ensures { result ≡ reading_of capture }
 {
     let window = SampleWindow::of_capture(&capture.samples, capture.count as u16);
     let answer = BestPhaseSearch::new(SNIFFED_BIT_LENGTHS).run(window);
-    let found = answer.found;
-    let event = event_with(capture, found);
-    let decode = rx_decode::decode_sniffed_with_phase(event);
-    let low_run = rx_decode::longest_dominant_run_ticks(event);
+    let event = event_with(capture, answer.found);
     Reading {
-        decode,
-        low_run,
+        decode: rx_decode::decode_sniffed_with_phase(event),
+        low_run: rx_decode::longest_dominant_run_ticks(event),
         steps: answer.steps,
     }
 }
 
-// The event of a capture, which holds what a finished search found. A field that is an enum can't be set, so the event is written anew.
-fn event_with(capture: Capture, found: Found) -> RxCompletedEvent
+// The event of a capture, which holds what a finished search found.
+#[tactic(auto, unfolding(crate::specs::Code::held_event, crate::specs::Reading::event_for))]
+fn event_with(capture: Capture, found: Option<PhaseDecode>) -> RxCompletedEvent
     ensures { result ≡ held_event capture found }
 {
-    let captured = capture.samples;
-    let count = capture.count as u16;
-    let event = RxCompletedEvent::of_capture(captured, count, capture.silence);
-    let samples = event.samples;
     RxCompletedEvent {
-        samples,
-        sample_count: event.sample_count,
-        pre_idle_ticks: event.pre_idle_ticks,
-        rx_epoch: event.rx_epoch,
-        rx_tick: event.rx_tick,
-        max_sample_gap_us: event.max_sample_gap_us,
-        timing_degraded: event.timing_degraded,
-        sniff_seq: event.sniff_seq,
         isr_decode: IsrDecode::Decoded(found),
+        ..RxCompletedEvent::of_capture(capture.samples, capture.count as u16, capture.silence)
     }
 }
 
 // Only frames of 8, 16 and 24 bits are decoded.
+#[tactic(auto, unfolding(crate::specs::Reading::is_frame))]
 pub fn is_decoded(reading: Reading) -> bool
     ensures { result ≡ is_decoded reading }
 {
-    let decode = reading.decode;
-    let frame = decode.frame;
-    match frame {
-        SniffedFrame::Forward16(_) => true,
-        SniffedFrame::Backward8(_) => true,
-        SniffedFrame::Forward24(_, _, _) => true,
-        SniffedFrame::UnsupportedLength(_) => false,
-        SniffedFrame::DecodeFailed => false,
-    }
+    matches!(
+        reading.decode.frame,
+        SniffedFrame::Forward16(_) | SniffedFrame::Backward8(_) | SniffedFrame::Forward24(_, _, _)
+    )
 }

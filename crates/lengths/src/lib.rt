@@ -15,45 +15,37 @@ impl BitLengths {
         ensures holds_just { HoldsJust result lengths.now }
     {
         let mut set = BitLengths(0);
-        let mut i = 0;
-        while i < lengths.len() {
-            set = set.with_length(lengths[i]);
-            i += 1;
+        for length in lengths {
+            set = set.with_length(*length);
         }
         set
     }
 
+    #[tactic(auto, unfolding(crate::specs::Lengths::with_length, laws::specs::Pick::pick))]
     fn with_length(self, length: u8) -> BitLengths
         ensures { result ≡ with_length self length }
     {
-        let mask = self.0;
-        if length < 32 {
-            let bit = 1u32 << length;
-            BitLengths(mask | bit)
-        } else {
-            self
+        match 1u32.checked_shl(length as u32) {
+            Some(bit) => BitLengths(self.0 | bit),
+            None => self,
         }
     }
 
+    #[tactic(auto, unfolding(crate::specs::Lengths::holds, laws::specs::Pick::pick))]
     pub fn contains(self, length: u8) -> bool
         ensures { result ≡ holds self length }
     {
-        let mask = self.0;
-        if length < 32 {
-            (mask >> length) % 2 == 1
-        } else {
-            false
-        }
+        length < 32 && (self.0 >> length) % 2 == 1
     }
 }
 
-// A constant can't call `of`, so these two sets are written as numbers. The promises of `sniffed` and `backward` say which lengths they hold.
+// A constant can't call `of`, so these two sets are written by their bits. The promises of `sniffed` and `backward` say which lengths they hold.
 
 // The lengths 8, 16 and 24.
-pub const SNIFFED_BIT_LENGTHS: BitLengths = BitLengths(0x0101_0100);
+pub const SNIFFED_BIT_LENGTHS: BitLengths = BitLengths(1 << 8 | 1 << 16 | 1 << 24);
 
-// The length 8 alone. Source document 003 (rx_decode.rs) has this set; it is here since only this crate can write a set as a number.
-pub const BACKWARD_FRAME_BIT_LENGTHS: BitLengths = BitLengths(0x0000_0100);
+// The length 8 alone. Source document 003 (rx_decode.rs) has this set; it is here since only this crate can write a set by its bits.
+pub const BACKWARD_FRAME_BIT_LENGTHS: BitLengths = BitLengths(1 << 8);
 
 pub const FORWARD24_BITS: u8 = 24;
 
@@ -71,6 +63,7 @@ struct PublicConstants {
     forward24_bits: u8,
 }
 
+#[tactic(auto, using(crate::proofs::Masks::sniffed_mask, crate::proofs::Masks::sniffed_just))]
 fn sniffed() -> BitLengths
     ensures value { result ≡ sniffed_lengths }
     ensures holds_just { HoldsJust result (8 ∷ 16 ∷ 24 ∷ []) }
@@ -78,6 +71,7 @@ fn sniffed() -> BitLengths
     SNIFFED_BIT_LENGTHS
 }
 
+#[tactic(auto, using(crate::proofs::Masks::backward_mask, crate::proofs::Masks::backward_just))]
 fn backward() -> BitLengths
     ensures value { result ≡ backward_lengths }
     ensures holds_just { HoldsJust result (8 ∷ []) }

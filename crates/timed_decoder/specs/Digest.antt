@@ -1,8 +1,6 @@
 -- One number for a decode or a reading, which the clock compares with the Rust's. Assumes nothing.
-use Rattle.std.specs.Prelude.{ℕ, ◌+◌, ◌*◌, ◌/◌}
+use Rattle.std.specs.Prelude.{ℕ, ◌+◌, ◌*◌, ◌/◌, Option, Some, None}
 use Rattle.window.specs.declared.PhaseDecode.{PhaseDecode}
-use Rattle.search.specs.declared.Found.{Found}
-use Rattle.search.specs.declared.Found.TheVariants.{Decode, Nothing}
 use Rattle.search.specs.declared.SearchAnswer.{SearchAnswer}
 use Rattle.rx_decode.specs.declared.SniffedFrame.{SniffedFrame}
 use Rattle.rx_decode.specs.declared.SniffedFrame.TheVariants.{Forward16, Backward8, Forward24, UnsupportedLength, DecodeFailed}
@@ -13,9 +11,9 @@ unfoldable pub digest_of : PhaseDecode → ℕ
 digest_of d = d.«data» / 4294967296 * 4294967296 + (d.bit_len * 65536 + d.score)
 
 -- the number of a decode, or 0 if there is none
-unfoldable pub found_of : Found → ℕ
-found_of (Decode d) = digest_of d
-found_of Nothing = 0
+unfoldable pub found_of : Option PhaseDecode → ℕ
+found_of (Some d) = digest_of d
+found_of None = 0
 
 -- the number of the decode that a search found
 abbrev pub answer_of : SearchAnswer → ℕ

@@ -13,10 +13,11 @@ ghost use Rattle.timed_decoder.specs.Digest.{digest_of, answer_of, frame_digest,
 use event::RxCompletedEvent;
 use lengths::SNIFFED_BIT_LENGTHS;
 use rx_decode::{SniffedDecode, SniffedFrame};
-use search::{BestPhaseSearch, Found};
+use search::BestPhaseSearch;
 use window::{DALI_RX_SAMPLE_BUF_LEN, PhaseDecode, SampleWindow};
 
 // The first four data bytes on top, then the length, then the score.
+#[tactic(auto, unfolding(crate::specs::Digest::digest_of))]
 fn digest(decode: PhaseDecode) -> u64
     ensures { result ≡ digest_of decode }
 {
@@ -37,20 +38,21 @@ pub extern "C" fn timed_phase(
     digest(window.decode_phase(max_out_bits, phase_ticks))
 }
 
+#[tactic(auto, using(lengths::proofs::Masks::sniffed_mask), unfolding(crate::specs::Digest::found_of))]
 #[unsafe(no_mangle)]
 pub extern "C" fn timed_search(samples: &[u8; DALI_RX_SAMPLE_BUF_LEN], sample_count: u16) -> u64
     ensures { result ≡ answer_of (run_of (new_of sniffed_lengths) (window_of samples.now sample_count)) }
 {
     let window = SampleWindow::of_capture(samples, sample_count);
     let answer = BestPhaseSearch::new(SNIFFED_BIT_LENGTHS).run(window);
-    let found = answer.found;
-    let Found::Decode(decode) = found else {
-        return 0;
-    };
-    digest(decode)
+    match answer.found {
+        Some(decode) => digest(decode),
+        None => 0,
+    }
 }
 
 // The frame kind on top, then its bytes or its length.
+#[tactic(auto, unfolding(crate::specs::Digest::frame_digest))]
 fn frame_digest(frame: SniffedFrame) -> u32
     ensures { result ≡ frame_digest frame }
 {
@@ -65,12 +67,11 @@ fn frame_digest(frame: SniffedFrame) -> u32
     }
 }
 
+#[tactic(auto, unfolding(crate::specs::Digest::sniffed_digest))]
 fn sniffed_digest(decode: SniffedDecode) -> u64
     ensures { result ≡ sniffed_digest decode }
 {
-    let score = decode.score;
-    let frame = decode.frame;
-    frame_digest(frame) as u64 * 65_536 + score as u64
+    frame_digest(decode.frame) as u64 * 65_536 + decode.score as u64
 }
 
 // An event holds an enum, so a foreign caller can't hand one over. This call makes the event from its capture, and the clock counts that time too.
@@ -78,7 +79,6 @@ fn sniffed_digest(decode: SniffedDecode) -> u64
 pub extern "C" fn timed_sniffed(samples: &[u8; DALI_RX_SAMPLE_BUF_LEN], sample_count: u16) -> u64
     ensures { result ≡ sniffed_digest (sniffed_of (found_in (event_of samples.now sample_count 0))) }
 {
-    let samples = *samples;
-    let ev = RxCompletedEvent::of_capture(samples, sample_count, 0);
+    let ev = RxCompletedEvent::of_capture(*samples, sample_count, 0);
     sniffed_digest(rx_decode::decode_sniffed_with_phase(ev))
 }

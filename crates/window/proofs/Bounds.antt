@@ -21,17 +21,17 @@ use Rattle.window.proofs.Turns.{stride_bounds, at_end}
 
 -- ---- the pad and what lies behind it
 module _ (samples : List ℕ) (count : ℕ) (few : count ≤ 64) (have : count ≤ length samples) where
-  pad : byte_at (window_of samples count).bytes (window_of samples count).len count 0 ≡ 255
+  pad : byte_at (window_of samples count) count 0 ≡ 255
   unfolding byte_at window_of
   pad =
       let n : min count 64 ≡ count = omega arith in
       rw (n, on_true (lt-ltb count (count + 1) (omega arith))) (get_or_at (take count samples) 255 _ 0 count (length-take-le count samples have))
 
-  behind : byte_at (window_of samples count).bytes (window_of samples count).len (count + 1) 0 ≡ 0
+  behind : byte_at (window_of samples count) (count + 1) 0 ≡ 0
   unfolding byte_at window_of
   behind = rw (on_false (le-ltb (count + 1) (min count 64 + 1) (omega arith)))
 
-a_tick_late : (w : SampleWindow) (p k : ℕ) → p / 8 ≡ k → p % 8 ≡ 1 → byte_at w.bytes w.len k 0 ≡ 255 → byte_at w.bytes w.len (k + 1) 0 ≡ 0
+a_tick_late : (w : SampleWindow) (p k : ℕ) → p / 8 ≡ k → p % 8 ≡ 1 → byte_at w k 0 ≡ 255 → byte_at w (k + 1) 0 ≡ 0
     → packed 2 8 (λ (i : ℕ). tick_at w (p + i)) ≡ 0xFE
 a_tick_late w p k place bit first second = sym (two_bytes w p (rw (place, second) (omega arith))) ∙ rw (place, bit, first, second)
 

@@ -1,5 +1,6 @@
 pub mod Bounds
 pub mod Bytes
+pub mod Captured
 pub mod Peeks
 pub mod Placing
 pub mod Sole

@@ -13,10 +13,11 @@ use borrow.Author.Tests.{lt-ltb, le-ltb}
 use Rattle.laws.specs.Packed.{packed}
 use Rattle.laws.specs.Pick.{pick}
 use Rattle.laws.proofs.Picked.{on_true, on_false}
-use Rattle.laws.proofs.Digits.{packed_same, packed_add, packed_bits}
+use Rattle.laws.proofs.Digits.{packed_same, packed_add, packed_bits, packed_part}
 use Rattle.window.specs.declared.SampleWindow.{SampleWindow}
+use Rattle.window.specs.declared.BitPeeks.{BitPeeks}
 use Rattle.window.specs.Window.{tick_at, level_before, peek_at}
-use Rattle.window.specs.Code.{byte_at}
+use Rattle.window.specs.Code.{byte_at, ten_ticks, peeks_of}
 
 -- ---- positions from the earliest on
 pub before : (at : ℕ) → at < 128 → sub_ℕ at 128 ≡ negsuc (127 - at)
@@ -38,7 +39,7 @@ pub moved : (p a m : ℕ) → pos p +ℤ sub_ℕ a m ≡ sub_ℕ (p + a) m
 moved p a m = +ℤ_comm (pos p) (sub_ℕ a m) ∙ further a m p ∙ ap (λ n. sub_ℕ n m) (omega arith)
 
 -- ---- a tick is a bit of its byte
-pub tick_is : (w : SampleWindow) (p : ℕ) → tick_at w p ≡ byte_at w.bytes w.len (p / 8) 0 / 2 ^ (7 - p % 8) % 2
+pub tick_is : (w : SampleWindow) (p : ℕ) → tick_at w p ≡ byte_at w (p / 8) 0 / 2 ^ (7 - p % 8) % 2
 unfolding tick_at byte_at
 tick_is w p = go (ltb (p / 8) w.len) refl
   where
@@ -47,6 +48,15 @@ tick_is w p = go (ltb (p / 8) w.len) refl
         ≡ pick (ltb (p / 8) w.len) (get_or w.bytes (p / 8) 0) 0 / 2 ^ (7 - p % 8) % 2
     go true e = simp (on_true e)
     go false e = simp (on_false e, zero-div)
+
+pick_lt : (t : Bool) (a b : ℕ) → a < 2 → b < 2 → pick t a b < 2
+unfolding pick
+pick_lt true a b h k = h
+pick_lt false a b h k = k
+
+tick_lt : (w : SampleWindow) (p : ℕ) → tick_at w p < 2
+unfolding tick_at
+tick_lt w p = pick_lt (ltb (p / 8) w.len) _ _ (omega arith) (omega arith)
 
 -- ---- two bytes and a shift
 window_of_two : (first next r s : ℕ) → r + s ≡ 8 → next < 256 → (first * 256 + next) / 2 ^ r % 256 ≡ first % 2 ^ r * 2 ^ s + next / 2 ^ r % 2 ^ s
@@ -63,31 +73,31 @@ window_of_two first next r s e small =
     ∙ rw (high first s (shr_lt s r next_lt), low first s (shr_lt s r next_lt), shr_mod s r next_lt)
 
 module _ (w : SampleWindow) (p : ℕ) where
-  in_first : packed 2 (8 - p % 8) (λ (i : ℕ). tick_at w (p + i)) ≡ byte_at w.bytes w.len (p / 8) 0 % 2 ^ (8 - p % 8)
+  in_first : packed 2 (8 - p % 8) (λ (i : ℕ). tick_at w (p + i)) ≡ byte_at w (p / 8) 0 % 2 ^ (8 - p % 8)
   in_first =
       let r = 8 - p % 8 in
-      packed_same 2 r (λ i. tick_at w (p + i)) (λ i. byte_at w.bytes w.len (p / 8) 0 / 2 ^ (0 + (r - 1 - i)) % 2)
+      packed_same 2 r (λ i. tick_at w (p + i)) (λ i. byte_at w (p / 8) 0 / 2 ^ (0 + (r - 1 - i)) % 2)
       (λ i h. let q : (p + i) / 8 ≡ p / 8 = omega arith in let b : 7 - (p + i) % 8 ≡ 0 + (8 - p % 8 - 1 - i) = omega arith in tick_is w (p + i) ∙ rw (q, b))
-      ∙ packed_bits r 0 (byte_at w.bytes w.len (p / 8) 0)
-      ∙ ap (λ x. x % 2 ^ r) (div-one (byte_at w.bytes w.len (p / 8) 0))
+      ∙ packed_bits r 0 (byte_at w (p / 8) 0)
+      ∙ ap (λ x. x % 2 ^ r) (div-one (byte_at w (p / 8) 0))
 
-  in_next : packed 2 (p % 8) (λ (i : ℕ). tick_at w (p + (8 - p % 8 + i))) ≡ byte_at w.bytes w.len (p / 8 + 1) 0 / 2 ^ (8 - p % 8) % 2 ^ (p % 8)
+  in_next : packed 2 (p % 8) (λ (i : ℕ). tick_at w (p + (8 - p % 8 + i))) ≡ byte_at w (p / 8 + 1) 0 / 2 ^ (8 - p % 8) % 2 ^ (p % 8)
   in_next =
       let s = p % 8 in
-      packed_same 2 s (λ i. tick_at w (p + (8 - s + i))) (λ i. byte_at w.bytes w.len (p / 8 + 1) 0 / 2 ^ (8 - s + (s - 1 - i)) % 2)
+      packed_same 2 s (λ i. tick_at w (p + (8 - s + i))) (λ i. byte_at w (p / 8 + 1) 0 / 2 ^ (8 - s + (s - 1 - i)) % 2)
       (λ i h. let q : (p + (8 - p % 8 + i)) / 8 ≡ p / 8 + 1 = omega arith in let b : 7 - (p + (8 - p % 8 + i)) % 8 ≡ 8 - p % 8 + (p % 8 - 1 - i) = omega arith in tick_is w (p + (8 - p % 8 + i)) ∙ rw (q, b))
-      ∙ packed_bits s (8 - s) (byte_at w.bytes w.len (p / 8 + 1) 0)
+      ∙ packed_bits s (8 - s) (byte_at w (p / 8 + 1) 0)
 
   eight : packed 2 8 (λ (i : ℕ). tick_at w (p + i))
-      ≡ byte_at w.bytes w.len (p / 8) 0 % 2 ^ (8 - p % 8) * 2 ^ (p % 8) + byte_at w.bytes w.len (p / 8 + 1) 0 / 2 ^ (8 - p % 8) % 2 ^ (p % 8)
+      ≡ byte_at w (p / 8) 0 % 2 ^ (8 - p % 8) * 2 ^ (p % 8) + byte_at w (p / 8 + 1) 0 / 2 ^ (8 - p % 8) % 2 ^ (p % 8)
   eight =
       let e : 8 ≡ 8 - p % 8 + p % 8 = omega arith in
       ap (λ k. packed 2 k (λ (i : ℕ). tick_at w (p + i))) e
       ∙ packed_add 2 (8 - p % 8) (p % 8) (λ (i : ℕ). tick_at w (p + i))
       ∙ rw (in_first, in_next)
 
-  pub two_bytes : byte_at w.bytes w.len (p / 8 + 1) 0 < 256
-      → (byte_at w.bytes w.len (p / 8) 0 * 256 + byte_at w.bytes w.len (p / 8 + 1) 0) / 2 ^ (8 - p % 8) % 256 ≡ packed 2 8 (λ (i : ℕ). tick_at w (p + i))
+  pub two_bytes : byte_at w (p / 8 + 1) 0 < 256
+      → (byte_at w (p / 8) 0 * 256 + byte_at w (p / 8 + 1) 0) / 2 ^ (8 - p % 8) % 256 ≡ packed 2 8 (λ (i : ℕ). tick_at w (p + i))
   two_bytes small = window_of_two _ _ (8 - p % 8) (p % 8) (omega arith) small ∙ sym eight
 
 -- ---- ten ticks in three bytes
@@ -118,8 +128,8 @@ module _ (first second third : ℕ) (small : second < 256) (small' : third < 256
   of_third : (e : ℕ) → e < 8 → three / 2 ^ e % 2 ≡ third / 2 ^ e % 2
   of_third e h = in_lower (first * 256 + second) third e small' h
 
-pub three_bytes : (w : SampleWindow) (p first second third : ℕ)
-    → first ≡ byte_at w.bytes w.len (p / 8) 0 → second ≡ byte_at w.bytes w.len (p / 8 + 1) 0 → third ≡ byte_at w.bytes w.len (p / 8 + 2) 0
+three_bytes : (w : SampleWindow) (p first second third : ℕ)
+    → first ≡ byte_at w (p / 8) 0 → second ≡ byte_at w (p / 8 + 1) 0 → third ≡ byte_at w (p / 8 + 2) 0
     → second < 256 → third < 256
     → ((first * 256 + second) * 256 + third) / 2 ^ (14 - p % 8) % 1024 ≡ packed 2 10 (λ (i : ℕ). tick_at w (p + i))
 three_bytes w p first second third e1 e2 e3 small small' =
@@ -130,7 +140,7 @@ three_bytes w p first second third e1 e2 e3 small small' =
     tick : (i : ℕ) → i < 10 → tick_at w (p + i) ≡ three first second third small small' / 2 ^ (14 - p % 8 + (10 - 1 - i)) % 2
     tick i h = tick_is w (p + i) ∙ go (dec_lt (p % 8 + i) 8) (dec_lt (p % 8 + i) 16)
       where
-        go : Dec (p % 8 + i < 8) → Dec (p % 8 + i < 16) → byte_at w.bytes w.len ((p + i) / 8) 0 / 2 ^ (7 - (p + i) % 8) % 2 ≡ three first second third small small' / 2 ^ (14 - p % 8 + (10 - 1 - i)) % 2
+        go : Dec (p % 8 + i < 8) → Dec (p % 8 + i < 16) → byte_at w ((p + i) / 8) 0 / 2 ^ (7 - (p + i) % 8) % 2 ≡ three first second third small small' / 2 ^ (14 - p % 8 + (10 - 1 - i)) % 2
         go (yes a) b =
             let place : (p + i) / 8 ≡ p / 8 = omega arith in
             let bit : 14 - p % 8 + (10 - 1 - i) ≡ 16 + (7 - (p + i) % 8) = omega arith in
@@ -144,8 +154,52 @@ three_bytes w p first second third e1 e2 e3 small small' =
             let bit : 14 - p % 8 + (10 - 1 - i) ≡ 7 - (p + i) % 8 = omega (arith, b) in
             rw (place, bit, ← e3) (sym (of_third first second third small small' (7 - (p + i) % 8) (omega arith)))
 
+pub ten : (w : SampleWindow) (p first second third : ℕ)
+    → first ≡ byte_at w (p / 8) 0 → second ≡ byte_at w (p / 8 + 1) 0 → third ≡ byte_at w (p / 8 + 2) 0 → second < 256 → third < 256
+    → (first * 65536 + second * 256 + third) / 2 ^ (14 - p % 8) % 1024 ≡ ten_ticks w p
+unfolding ten_ticks
+ten w p first second third e1 e2 e3 small small' =
+    let bytes : first * 65536 + second * 256 + third ≡ (first * 256 + second) * 256 + third = omega arith in
+    rw bytes (three_bytes w p first second third e1 e2 e3 small small')
+
+-- ---- one peek and three, from the start on
+pub peek_past : (w : SampleWindow) (at : ℕ) → 128 ≤ at → w.len ≤ (at - 128) / 8 → 255 ≡ peek_at w (sub_ℕ at 128)
+unfolding peek_at
+peek_past w at h k = rw (from at h, on_false (le-ltb _ _ k))
+
+pub peek_within : (w : SampleWindow) (at first next : ℕ) → 128 ≤ at → (at - 128) / 8 < w.len → first ≡ byte_at w ((at - 128) / 8) 0
+    → next ≡ byte_at w ((at - 128) / 8 + 1) 0 → next < 256 → (first * 256 + next) / 2 ^ (8 - (at - 128) % 8) % 256 ≡ peek_at w (sub_ℕ at 128)
+unfolding peek_at
+peek_within w at first next h k e d small =
+    rw (from at h, on_true (lt-ltb ((at - 128) / 8) w.len k), e, d) (two_bytes w (at - 128) (rw d at small))
+
+-- the peek that begins j ticks behind the first of ten
+peek_in : (w : SampleWindow) (p j r at ticks : ℕ) → j + (8 + r) ≡ 10 → at ≡ 128 + (p + j) → (p + j) / 8 < w.len → ticks ≡ ten_ticks w p
+    → ticks / 2 ^ r % 256 ≡ peek_at w (sub_ℕ at 128)
+unfolding ten_ticks tick_at peek_at
+peek_in w p j r at ticks e place within et =
+    let q : at - 128 ≡ p + j = omega arith in
+    rw (et, from at (omega arith), q, on_true (lt-ltb ((p + j) / 8) w.len within))
+    (packed_part 10 j 8 r (λ i. tick_at w (p + i)) e (λ i. tick_lt w (p + i))
+    ∙ packed_same 2 8 (λ i. tick_at w (p + (j + i))) (λ i. tick_at w (p + j + i)) (λ i h. ap (tick_at w) (omega arith)))
+
+abbrev peeks : ℕ → ℕ → ℕ → BitPeeks
+peeks centre early late = record { centre = centre; early = early; late = late }
+
+pub together : (w : SampleWindow) (at ticks : ℕ) → 128 < at → (at + 1 - 128) / 8 < w.len → ticks ≡ ten_ticks w (at - 1 - 128)
+    → peeks (ticks / 2 % 256) (ticks / 4 % 256) (ticks % 256) ≡ peeks_of w at
+unfolding peeks_of
+together w at ticks h within e =
+    let p = at - 1 - 128 in
+    rw (
+      ← peek_in w p 1 1 at ticks (omega arith) (omega arith) (omega arith) e,
+      ← peek_in w p 0 2 (at - 1) ticks (omega arith) (omega arith) (omega arith) e,
+      ← peek_in w p 2 0 (at + 1) ticks (omega arith) (omega arith) (omega arith) e,
+      div-one,
+    )
+
 -- ---- peeks that begin before the start
-pub first_level : (w : SampleWindow) (b : ℕ) → b ≡ byte_at w.bytes w.len 0 255 → b < 256 → b / 128 ≡ pick (ltb 0 w.len) (tick_at w 0) 1
+pub first_level : (w : SampleWindow) (b : ℕ) → b ≡ byte_at w 0 255 → b < 256 → b / 128 ≡ pick (ltb 0 w.len) (tick_at w 0) 1
 unfolding byte_at tick_at
 first_level w b e small = go (ltb 0 w.len) refl
   where
@@ -153,14 +207,8 @@ first_level w b e small = go (ltb 0 w.len) refl
     go true h = simp (on_true h) (let d : b ≡ get_or w.bytes 0 0 = e ∙ simp (on_true h) in rw (← d) (omega arith))
     go false h = simp (on_false h) (rw (e ∙ on_false h (get_or w.bytes 0 0) 255))
 
-pick_lt : (t : Bool) (a b : ℕ) → a < 2 → b < 2 → pick t a b < 2
-unfolding pick
-pick_lt true a b h k = h
-pick_lt false a b h k = k
-
-pub tick_lt : (w : SampleWindow) (p : ℕ) → tick_at w p < 2
-unfolding tick_at
-tick_lt w p = pick_lt (ltb (p / 8) w.len) _ _ (omega arith) (omega arith)
+-- what a tick of a peek before the start is read by
+pub ruleset levels = (before, from, tick_is, first_level)
 
 pub level_lt : (w : SampleWindow) (q : ℤ) → level_before w q < 2
 unfolding level_before

@@ -54,9 +54,9 @@ module _ (v n : ℕ) (fits : v < 2 ^ n) (few : n ≤ 64) where
   sum_lt : v / 2 ^ rest n * 256 + v % 2 ^ rest n < 2 ^ (whole n + 8)
   sum_lt = rw pow-add (omega (arith, high_lt, low_lt))
 
-  pub placed_fits : (v / 2 ^ rest n * 256 + v % 2 ^ rest n) * 2 ^ (56 - whole n) % 18446744073709551616 ≡ placed_of v n
+  pub placed_fits : (v / 2 ^ rest n * 256 + v % (1 * 2 ^ rest n % 18446744073709551616)) * 2 ^ (56 - whole n) % 18446744073709551616 ≡ placed_of v n
   unfolding placed_of
-  placed_fits = shl_exact (whole n + 8) (56 - whole n) 64 sum_lt (omega arith)
+  placed_fits = rw one_shifted (shl_exact (whole n + 8) (56 - whole n) 64 sum_lt (omega arith))
 
 pub placed_none : (v n : ℕ) → v < 2 ^ n → n ≡ 0 → 0 ≡ placed_of v n
 unfolding placed_of

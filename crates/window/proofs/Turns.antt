@@ -5,24 +5,28 @@ use mathlib.Core.List.{List, [], ◌∷◌}
 use Prim.Native.Nat.{ℕ, zero, suc, ◌+◌, ◌-◌, ◌*◌, ◌%◌, ◌≤◌, ◌<◌, max}
 use native.Mathlib.Omega.{arith}
 use native.Mathlib.Numerals.{add-one}
-use native.Mathlib.Nat.{add_assoc, zero-add}
+use native.Mathlib.Nat.{add_assoc, add-zero, zero-add}
 use lib.Dec.{ltb, eqb}
-use lib.IntN.{ℤ}
+use lib.IntN.{ℤ, sub_ℕ}
 use lib.ListN.{length, get_or, drop, length-drop}
 use lib.Seq.{drop-cons}
 use borrow.Author.Tests.{lt-ltb, le-ltb, le-leb, lt-leb, ne_eqb, ltb-true, ltb-false}
 use Rattle.laws.specs.Packed.{packed}
 use Rattle.laws.specs.Pick.{pick}
 use Rattle.laws.proofs.Picked.{on_true, on_false}
+use Rattle.weight.specs.Weight.{weight_of}
 use Rattle.window.specs.declared.SampleWindow.{SampleWindow}
 use Rattle.window.specs.declared.PeekStop.{PeekStop}
-use Rattle.window.specs.declared.PeekStop.TheVariants.{None, Idle, Held}
+use Rattle.window.specs.declared.PeekStop.TheVariants as stop
+use Rattle.window.specs.declared.BitPeeks.{BitPeeks}
 use Rattle.window.specs.declared.PeekAround.{PeekAround}
-use Rattle.window.specs.declared.PhaseRead.{PhaseRead}
-use Rattle.window.specs.declared.PhaseRead.TheVariants as read
-use Rattle.window.specs.Window.{sample_bits}
-use Rattle.window.specs.Phase.{peek_of, weight_around, stride_of, stride_around, PhaseBits, failed, weighed, after, bits_from, score_of, data_bit, stored_bits}
-use Rattle.window.specs.Code.{stop_of, around_of, reading, summary_of, stored_of, pushed_of}
+use Rattle.window.specs.declared.Reading.{Reading}
+use Rattle.std.specs.Prelude.{Option, Some, None}
+use Rattle.window.specs.Window.{sample_bits, peek_at}
+use Rattle.window.specs.Phase.{peek_of, weight_around, stride_of, stride_around, PhaseBits, failed, weighed, after, bits_from, bits_of, score_of, data_bit, stored_bits}
+use Rattle.window.specs.Code.{peeks_of, stop_of, around_of, reading, summary_of, stored_of, pushed_of}
+use Rattle.window.proofs.Peeks.{moved}
+use Rattle.window.proofs.Placing.{pushed_lt}
 
 -- ---- the stride
 pub stride_bounds : (c e l : ℕ) → (7 ≤ stride_of c e l) × (stride_of c e l ≤ 9)
@@ -38,18 +42,43 @@ pub pmax_bounds : (w : SampleWindow) (phase : ℤ) (p : ℕ) (a : PeekAround) �
 unfolding around_of stride_around
 pmax_bounds w phase p a e = subst (λ (x : PeekAround). (7 ≤ x.pmax) × (x.pmax ≤ 9)) (sym e) (stride_bounds _ _ _)
 
+-- ---- the peeks of a bit
+-- a peek from the earliest position on is the phase's peek at a bit's position
+at_phase : (w : SampleWindow) (p b at : ℕ) → at ≡ p + b → peek_at w (sub_ℕ at 128) ≡ peek_of w (sub_ℕ b 128) p
+at_phase w p b at e = ap (λ n. peek_at w (sub_ℕ n 128)) e ∙ ap (peek_at w) (sym (moved p b 128))
+
+pub around : (w : SampleWindow) (p b : ℕ) → 1 ≤ p → {peeks : BitPeeks} {c e l m n k : ℕ} {stop : PeekStop}
+    → peeks ≡ peeks_of w (p + b) → c ≡ weight_of peeks.centre → e ≡ weight_of peeks.early → l ≡ weight_of peeks.late
+    → m ≡ max c e → n ≡ max m l → k ≡ stride_of c e l → stop ≡ stop_of peeks.late
+    → record { weightmax = n; pmax = k; stop = stop } ≡ around_of w (sub_ℕ b 128) p
+unfolding around_of weight_around stride_around peeks_of
+around w p b h ep ec ee el em en ek estop =
+    rw (
+      en,
+      em,
+      ek,
+      estop,
+      ec,
+      ee,
+      el,
+      ep,
+      at_phase w p b (p + b) (omega arith),
+      at_phase w (p - 1) b (p + b - 1) (omega arith),
+      at_phase w (p + 1) b (p + b + 1) (omega arith),
+    )
+
 -- ---- a turn
 -- by the stop that the late peek gives
 abbrev pub on_stop : {A : Type 0} → PeekStop → A → A → A → A
-on_stop Idle end fail on = end
-on_stop Held end fail on = fail
-on_stop None end fail on = on
+on_stop stop.Idle end fail on = end
+on_stop stop.Held end fail on = fail
+on_stop stop.None end fail on = on
 
 on_stop_lem : {A : Type 0} (s : ℕ) (end fail on : A) → pick (eqb s 255) end (pick (eqb s 0) fail on) ≡ on_stop (stop_of s) end fail on
 unfolding stop_of pick
 on_stop_lem s end fail on = go (eqb s 255) (eqb s 0)
   where
-    go : (a b : Bool) → pick a end (pick b fail on) ≡ on_stop (pick a Idle (pick b Held None)) end fail on
+    go : (a b : Bool) → pick a end (pick b fail on) ≡ on_stop (pick a stop.Idle (pick b stop.Held stop.None)) end fail on
     go true b = refl
     go false true = refl
     go false false = refl
@@ -73,51 +102,59 @@ module _ (w : SampleWindow) (most : ℕ) (phase : ℤ) where
       (on_stop_lem (peek_of w phase (p + 1)) (weighed []) failed (after (weight_around w phase p) (bits_from f w most phase (p + stride_around w phase p) (len + 1))))
 
 -- ---- what was read so far, with the bits that follow
-push_all : ℕ → ℕ → List ℕ → ℕ
-push_all len v [] = v
-push_all len v (x ∷ xs) = push_all (len + 1) (pushed_of v len x) xs
+-- one bit more
+abbrev pub with_bit : Reading → ℕ → Reading
+with_bit r x = reading (r.bit_len + 1) (r.score + x) (pushed_of r.bits r.bit_len x)
 
-pub joined : ℕ → ℕ → ℕ → PhaseBits → PhaseRead
-joined len score v failed = read.Held
-joined len score v (weighed ws) = read.Bits (reading (len + length ws) (score + score_of ws) (push_all len v ws))
+read_all : Reading → List ℕ → Reading
+read_all r [] = r
+read_all r (x ∷ xs) = read_all (with_bit r x) xs
 
-pub joined_none : (len score v : ℕ) → joined len score v (weighed []) ≡ read.Bits (reading len score v)
-unfolding joined score_of push_all
-joined_none len score v = let e : len + 0 ≡ len = omega arith in let d : score + 0 ≡ score = omega arith in rw (e, d)
+joined : Reading → PhaseBits → Option Reading
+joined r failed = None
+joined r (weighed ws) = Some (read_all r ws)
 
-joined_after : (len score v x : ℕ) (r : PhaseBits) → joined len score v (after x r) ≡ joined (len + 1) (score + x) (pushed_of v len x) r
-unfolding joined score_of push_all
-joined_after len score v x failed = refl
-joined_after len score v x (weighed ws) =
-    let e : len + suc (length ws) ≡ len + 1 + length ws = omega arith in
-    rw (e, ← add_assoc score x (score_of ws))
+-- what the phase reads in all, if it is at a position and has read this
+pub in_all : SampleWindow → ℕ → ℤ → ℕ → Reading → Option Reading
+in_all w most phase p r = joined r (bits_from (73 - r.bit_len) w most phase p r.bit_len)
 
-split : (len score v x : ℕ) (rest : PhaseBits) (s : PeekStop)
-    → on_stop s (read.Bits (reading len score v)) read.Held (joined (len + 1) (score + x) (pushed_of v len x) rest)
-    ≡ joined len score v (on_stop s (weighed []) failed (after x rest))
-unfolding joined
-split len score v x rest Idle = sym (joined_none len score v)
-split len score v x rest Held = refl
-split len score v x rest None = sym (joined_after len score v x rest)
+split : (r : Reading) (x : ℕ) (rest : PhaseBits) (s : PeekStop)
+    → on_stop s (Some r) None (joined (with_bit r x) rest) ≡ joined r (on_stop s (weighed []) failed (after x rest))
+unfolding joined read_all
+split r x rest stop.Idle = refl
+split r x rest stop.Held = refl
+split r x failed stop.None = refl
+split r x (weighed ws) stop.None = refl
 
--- what is read in all from a bit on whose late peek gives that stop
-abbrev pub read_on : SampleWindow → ℕ → ℤ → ℕ → ℕ → ℕ → ℕ → PeekAround → PeekStop → PhaseRead
-read_on w most phase p len score v a s =
-    on_stop s (read.Bits (reading len score v)) read.Held
-    (joined (len + 1) (score + a.weightmax) (pushed_of v len a.weightmax) (bits_from (73 - (len + 1)) w most phase (p + a.pmax) (len + 1)))
+module _ (w : SampleWindow) (most : ℕ) (phase : ℤ) (p : ℕ) (r : Reading) (x : Option Reading) (inv : in_all w most phase p r ≡ x) where
+  pub at_its_end : sample_bits w ≤ p + 1 → Some r ≡ x
+  unfolding in_all joined read_all
+  at_its_end h = rw at_end at inv
 
-pub turned : (w : SampleWindow) (most : ℕ) (phase : ℤ) (p len score v ticks : ℕ) (a : PeekAround) (s : PeekStop) (x : PhaseRead)
-    → 1 + 7 * len ≤ p → a ≡ around_of w phase p → a.stop ≡ s → ticks ≡ sample_bits w → p + 1 < ticks → len ≤ most
-    → joined len score v (bits_from (73 - len) w most phase p len) ≡ x
-    → read_on w most phase p len score v a s ≡ x
-turned w most phase p len score v ticks a s x low e es et h k inv =
-    let ef : 73 - len ≡ suc (73 - (len + 1)) = omega arith in
-    let rest = bits_from (73 - (len + 1)) w most phase (p + a.pmax) (len + 1) in
-    let one : joined len score v (on_stop s (weighed []) failed (after a.weightmax rest)) ≡ x =
-    ap (λ z. joined len score v (on_stop z (weighed []) failed (after a.weightmax rest))) (sym es)
-    ∙ ap (joined len score v) (sym (turn w most phase (73 - (len + 1)) p len a e (omega arith) k))
-    ∙ (rw ef at inv) in
-    split len score v a.weightmax rest s ∙ one
+  pub at_its_most : p + 1 < sample_bits w → most < r.bit_len → Some r ≡ x
+  unfolding in_all joined read_all
+  at_its_most h k = rw at_most at inv
+
+  module _ (low : 1 + 7 * r.bit_len ≤ p) (within : p + 1 < sample_bits w) (k : r.bit_len ≤ most) (a : PeekAround) (e : a ≡ around_of w phase p) where
+    turned : (s : PeekStop) → a.stop ≡ s → on_stop s (Some r) None (in_all w most phase (p + a.pmax) (with_bit r a.weightmax)) ≡ x
+    unfolding in_all
+    turned s es =
+        let ef : 73 - r.bit_len ≡ suc (73 - (r.bit_len + 1)) = omega arith in
+        let rest = bits_from (73 - (r.bit_len + 1)) w most phase (p + a.pmax) (r.bit_len + 1) in
+        let one : joined r (on_stop s (weighed []) failed (after a.weightmax rest)) ≡ x =
+        ap (λ z. joined r (on_stop z (weighed []) failed (after a.weightmax rest))) (sym es)
+        ∙ ap (joined r) (sym (turn w most phase (73 - (r.bit_len + 1)) p r.bit_len a e within k))
+        ∙ (rw ef at inv) in
+        split r a.weightmax rest s ∙ one
+
+    pub idle : a.stop ≡ stop.Idle → Some r ≡ x
+    idle = turned stop.Idle
+
+    pub held : a.stop ≡ stop.Held → None ≡ x
+    held = turned stop.Held
+
+    pub goes_on : a.stop ≡ stop.None → in_all w most phase (p + a.pmax) (with_bit r a.weightmax) ≡ x
+    goes_on = turned stop.None
 
 -- ---- all of them
 module _ (all : List ℕ) where
@@ -135,22 +172,31 @@ module _ (all : List ℕ) where
           let d : stored_of (suc n) ≡ n = omega (arith, ltb-false 64 (suc n) e) in
           rw (on_false e, s, ev, d, ex) (ap (λ (j : ℕ). packed 2 n (data_bit all) * 2 + get_or all j 0 % 2) (sym (add-one n)))
 
-  pushed_all : (rest : List ℕ) (len v : ℕ) → drop len all ≡ rest → len ≤ length all → v ≡ packed 2 (stored_of len) (data_bit all)
-      → push_all len v rest ≡ packed 2 (stored_bits all) (data_bit all)
-  unfolding push_all
-  pushed_all [] len v e h ev =
-      let n : length all - len ≡ 0 = sym (length-drop len all) ∙ ap length e in
-      let l : len ≡ length all = omega arith in
-      ev ∙ rw l
-  pushed_all (x ∷ xs) len v e h ev =
-      let n : length all - len ≡ suc (length xs) = sym (length-drop len all) ∙ ap length e in
-      let k : len < length all = omega arith in
-      let d = drop-cons all len 0 k in
-      let ex : x ≡ get_or all len 0 = cc in
-      let es : drop (suc len) all ≡ xs = cc in
-      pushed_all xs (len + 1) (pushed_of v len x) (rw (add-one len) es) (omega arith) (pushed_one len v x ex ev)
+  all_read : (rest : List ℕ) (r : Reading) → drop r.bit_len all ≡ rest → r.bit_len ≤ length all → r.bits ≡ packed 2 (stored_of r.bit_len) (data_bit all)
+      → read_all r rest ≡ reading (r.bit_len + length rest) (r.score + score_of rest) (packed 2 (stored_bits all) (data_bit all))
+  unfolding read_all score_of
+  all_read [] r e h ev =
+      let n : length all - r.bit_len ≡ 0 = sym (length-drop r.bit_len all) ∙ ap length e in
+      let l : r.bit_len ≡ length all = omega arith in
+      let bits : r.bits ≡ packed 2 (stored_bits all) (data_bit all) = ev ∙ rw l in
+      simp (add-zero, ← bits)
+  all_read (x ∷ xs) r e h ev =
+      let n : length all - r.bit_len ≡ suc (length xs) = sym (length-drop r.bit_len all) ∙ ap length e in
+      let k : r.bit_len < length all = omega arith in
+      let d = drop-cons all r.bit_len 0 k in
+      let ex : x ≡ get_or all r.bit_len 0 = cc in
+      let es : drop (suc r.bit_len) all ≡ xs = cc in
+      let sum : r.bit_len + suc (length xs) ≡ r.bit_len + 1 + length xs = omega arith in
+      rw (sum, ← add_assoc r.score x (score_of xs))
+      (all_read xs (with_bit r x) (rw (add-one r.bit_len) es) (omega arith) (pushed_one r.bit_len r.bits x ex ev))
 
-pub joined_all : (r : PhaseBits) → joined 0 0 0 r ≡ summary_of r
-unfolding joined summary_of packed
-joined_all failed = refl
-joined_all (weighed ws) = rw (zero-add (length ws), zero-add (score_of ws)) (ap (λ v. read.Bits (reading (length ws) (score_of ws) v)) (pushed_all ws ws 0 0 refl (omega arith) refl))
+pub from_the_start : (w : SampleWindow) (most : ℕ) (phase : ℤ) → in_all w most phase 1 (reading 0 0 0) ≡ summary_of (bits_of w most phase)
+unfolding in_all bits_of joined summary_of packed
+from_the_start w most phase = go (bits_from 73 w most phase 1 0)
+  where
+    go : (r : PhaseBits) → joined (reading 0 0 0) r ≡ summary_of r
+    go failed = refl
+    go (weighed ws) = simp zero-add at (ap Some (all_read ws ws (reading 0 0 0) refl (omega arith) refl))
+
+-- what a turn of the loop of `read_phase` needs
+pub ruleset turns = (pmax_bounds, at_its_end, idle, held, goes_on, pushed_lt)

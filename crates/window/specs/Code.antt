@@ -1,26 +1,24 @@
 -- Document 01, "Window" and "One phase": what the private functions promise. No public promise cites this file. Assumes nothing.
-use Rattle.std.specs.Prelude.{ℕ, ◌+◌, ◌-◌, ◌*◌, ◌/◌, ◌%◌, ◌^◌, min, List, ltb, eqb, ℤ, length, get_or}
+use Rattle.std.specs.Prelude.{ℕ, ◌+◌, ◌-◌, ◌*◌, ◌/◌, ◌%◌, ◌^◌, min, ltb, eqb, ℤ, length, get_or, Option, Some, None}
 use Rattle.std.proofs.Math.IntN.{sub_ℕ}
 use Rattle.laws.specs.Packed.{packed}
 use Rattle.laws.specs.Pick.{pick}
 use Rattle.window.specs.declared.SampleWindow.{SampleWindow}
 use Rattle.window.specs.declared.PeekStop.{PeekStop}
-use Rattle.window.specs.declared.PeekStop.TheVariants.{None, Idle, Held}
+use Rattle.window.specs.declared.PeekStop.TheVariants as stop
 use Rattle.window.specs.declared.BitPeeks.{BitPeeks}
 use Rattle.window.specs.declared.PeekAround.{PeekAround}
 use Rattle.window.specs.declared.Reading.{Reading}
-use Rattle.window.specs.declared.PhaseRead.{PhaseRead}
-use Rattle.window.specs.declared.PhaseRead.TheVariants as read
-use Rattle.window.specs.Window.{window_with, tick_at, peek_at}
+use Rattle.window.specs.Window.{tick_at, peek_at}
 use Rattle.window.specs.Phase.{peek_of, weight_around, stride_around, PhaseBits, failed, weighed, score_of, stored_bits, data_bit}
 
 -- byte k of the window, or `past` if it lies past the pad
-unfoldable pub byte_at : List ℕ → ℕ → ℕ → ℕ → ℕ
-byte_at bytes len k past = pick (ltb k len) (get_or bytes k 0) past
+unfoldable pub byte_at : SampleWindow → ℕ → ℕ → ℕ
+byte_at w k past = pick (ltb k w.len) (get_or w.bytes k 0) past
 
 -- ten ticks from position p on as one number, the first on top
-unfoldable pub ten_ticks : List ℕ → ℕ → ℕ → ℕ
-ten_ticks bytes len p = packed 2 10 (λ (i : ℕ). tick_at (window_with bytes len 0) (p + i))
+unfoldable pub ten_ticks : SampleWindow → ℕ → ℕ
+ten_ticks w p = packed 2 10 (λ (i : ℕ). tick_at w (p + i))
 
 -- The three peeks of the bit at `at`. The code counts this position from 128 ticks before the start.
 unfoldable pub peeks_of : SampleWindow → ℕ → BitPeeks
@@ -28,7 +26,7 @@ peeks_of w at = record { centre = peek_at w (sub_ℕ at 128); early = peek_at w 
 
 -- the stop for a late peek: Idle ends the phase, Held makes it fail, None lets it go on
 unfoldable pub stop_of : ℕ → PeekStop
-stop_of sample = pick (eqb sample 255) Idle (pick (eqb sample 0) Held None)
+stop_of sample = pick (eqb sample 255) stop.Idle (pick (eqb sample 0) stop.Held stop.None)
 
 -- the weight of the bit at position p, the stride to the next bit, and the stop by the late peek
 unfoldable pub around_of : SampleWindow → ℤ → ℕ → PeekAround
@@ -40,9 +38,9 @@ abbrev pub reading : ℕ → ℕ → ℕ → Reading
 reading len score v = record { bit_len = len; score = score; bits = v }
 
 -- what the code keeps of a phase's bits: how many there are, their score, and the stored ones as one number
-unfoldable pub summary_of : PhaseBits → PhaseRead
-summary_of failed = read.Held
-summary_of (weighed weights) = read.Bits (reading (length weights) (score_of weights) (packed 2 (stored_bits weights) (data_bit weights)))
+unfoldable pub summary_of : PhaseBits → Option Reading
+summary_of failed = None
+summary_of (weighed weights) = Some (reading (length weights) (score_of weights) (packed 2 (stored_bits weights) (data_bit weights)))
 
 -- how many of `len` bits are stored: all but the start bit, 64 at most
 abbrev pub stored_of : ℕ → ℕ

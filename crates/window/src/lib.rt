@@ -4,7 +4,7 @@
 ghost use Rattle.std.specs.Prelude.{◌≡◌, min, max, ◌+◌, ◌-◌, ◌^◌, ◌≤◌, ◌<◌, ltb};
 ghost use Rattle.std.proofs.Math.IntN.{sub_ℕ};
 ghost use Rattle.laws.specs.Pick.{pick};
-ghost use Rattle.window.specs.Window.{window_with, window_of, empty_window, level_before, peek_at};
+ghost use Rattle.window.specs.Window.{window_of, empty_window, level_before, peek_at};
 ghost use Rattle.window.specs.Phase.{failed, decode_of, phase_of, bits_of, stride_of};
 ghost use Rattle.window.specs.Constants.{public_constants};
 ghost use Rattle.window.specs.Code.{byte_at, ten_ticks, peeks_of, stop_of, around_of, summary_of, stored_of, pushed_of, placed_of};
@@ -77,10 +77,12 @@ struct Reading {
     bits: u64,
 }
 
-#[derive(Drop)]
-enum PhaseRead {
-    Held,
-    Bits(Reading),
+impl Reading {
+    const EMPTY: Reading = Reading {
+        bit_len: 0,
+        score: 0,
+        bits: 0,
+    };
 }
 
 // The eight data bytes are one number, the first byte on top.
@@ -93,6 +95,7 @@ pub struct PhaseDecode {
 }
 
 impl PhaseDecode {
+    #[tactic(auto, unfolding(crate::specs::Phase::decode_of))]
     fn failed(phase_ticks: i8) -> PhaseDecode
         ensures { result ≡ decode_of phase_ticks failed }
     {
@@ -120,199 +123,174 @@ impl SampleWindow {
     };
 
     // Nobody calls this: its promise says what the constant is.
+    #[tactic(auto, unfolding(crate::specs::Window::empty_window))]
     fn empty() -> SampleWindow
         ensures { result ≡ empty_window }
     {
         SampleWindow::EMPTY
     }
 
+    #[tactic(auto, using(crate::proofs::Captured::captured))]
     pub fn of_capture(samples: &[u8; DALI_RX_SAMPLE_BUF_LEN], sample_count: u16) -> SampleWindow
         ensures { result ≡ window_of samples.now sample_count }
     {
-        let samples: &[u8] = samples;
         let n = samples_kept(sample_count);
-        let mut window = SampleWindow::EMPTY;
-        let mut i: usize = 0;
-        while i < n {
-            window.bytes[i] = samples[i];
-            i += 1;
+        let mut bytes = [0; WINDOW_LEN];
+        bytes[..n].copy_from_slice(&samples[..n]);
+        bytes[n] = PEEK_IDLE;
+        SampleWindow {
+            bytes,
+            len: (n + 1) as u16,
+            bits: n as u16 * WINDOW_BITS_PER_SAMPLE,
         }
-        window.bytes[n] = PEEK_IDLE;
-        window.len = (n + 1) as u16;
-        window.bits = n as u16 * WINDOW_BITS_PER_SAMPLE;
-        window
     }
 
-    // The functions that peek borrow the window's fields, since each call would copy a window by value.
-
     // Byte number `pos` of the window, or `past` if it lies past the pad.
-    fn byte(bytes: &[u8; WINDOW_LEN], len: u16, pos: u16, past: u8) -> u8
-        ensures { result ≡ byte_at bytes.now len pos past }
+    #[tactic(auto, unfolding(crate::specs::Code::byte_at, laws::specs::Pick::pick))]
+    fn byte(&self, pos: u16, past: u8) -> u8
+        ensures { result ≡ byte_at self.now pos past }
     {
-        let bytes: &[u8] = bytes;
-        if len <= pos {
+        if self.len <= pos {
             return past;
         }
-        let i = pos as usize;
-        if bytes.len() <= i {
-            return 0;
-        }
-        bytes[i]
+        self.bytes.get(pos as usize).copied().unwrap_or(0)
     }
 
     // One tick of a peek that begins before the start.
-    fn sample_bit(bytes: &[u8; WINDOW_LEN], len: u16, bits: u16, at: u16) -> u8
-        ensures { result ≡ level_before (window_with bytes.now len bits) (sub_ℕ at 128) }
+    #[tactic(auto, using(crate::proofs::Peeks::levels), unfolding(crate::specs::Window::level_before, laws::specs::Pick::pick))]
+    fn sample_bit(&self, at: u16) -> u8
+        ensures { result ≡ level_before self.now (sub_ℕ at 128) }
     {
         if at < EARLIEST {
-            return SampleWindow::byte(bytes, len, 0, PEEK_IDLE) / 128;
+            return self.byte(0, PEEK_IDLE) / 128;
         }
         let bitpos = at - EARLIEST;
-        if bits <= bitpos {
+        if self.bits <= bitpos {
             return 1;
         }
-        let byte = SampleWindow::byte(bytes, len, bitpos / 8, 0);
-        (byte >> (7 - bitpos % 8)) % 2
+        (self.byte(bitpos / 8, 0) >> (7 - bitpos % 8)) % 2
     }
 
-    fn peek_before_start(bytes: &[u8; WINDOW_LEN], len: u16, bits: u16, at: u16) -> u8
+    fn peek_before_start(&self, at: u16) -> u8
         requires { at < 128 }
-        ensures { result ≡ peek_at (window_with bytes.now len bits) (sub_ℕ at 128) }
+        ensures { result ≡ peek_at self.now (sub_ℕ at 128) }
     {
         let mut sample: u8 = 0;
-        let mut offset: u16 = 0;
-        while offset < 8 {
-            sample = sample * 2 + SampleWindow::sample_bit(bytes, len, bits, at + offset);
-            offset += 1;
+        for offset in 0..8 {
+            sample = sample * 2 + self.sample_bit(at + offset);
         }
         sample
     }
 
     // Eight ticks from a position on, the first on top.
-    fn peek8(bytes: &[u8; WINDOW_LEN], len: u16, bits: u16, at: u16) -> u8
+    #[tactic(auto, using(crate::proofs::Peeks::peek_past, crate::proofs::Peeks::peek_within))]
+    fn peek8(&self, at: u16) -> u8
         requires { at ≤ 1000 }
-        ensures { result ≡ peek_at (window_with bytes.now len bits) (sub_ℕ at 128) }
+        ensures { result ≡ peek_at self.now (sub_ℕ at 128) }
     {
         if at < EARLIEST {
-            return SampleWindow::peek_before_start(bytes, len, bits, at);
+            return self.peek_before_start(at);
         }
         let shifted = at - EARLIEST;
         let pos = shifted / 8;
-        if len <= pos {
+        if self.len <= pos {
             return PEEK_IDLE;
         }
-        let first = SampleWindow::byte(bytes, len, pos, 0) as u16;
-        let next = SampleWindow::byte(bytes, len, pos + 1, 0) as u16;
+        let first = self.byte(pos, 0) as u16;
+        let next = self.byte(pos + 1, 0) as u16;
         (((first * 256 + next) >> (8 - shifted % 8)) % 256) as u8
     }
 
     // Ten ticks from a position on, the first on top.
-    fn ten_ticks(bytes: &[u8; WINDOW_LEN], len: u16, bitpos: u16) -> u16
+    #[tactic(auto, using(crate::proofs::Peeks::ten))]
+    fn ten_ticks(&self, bitpos: u16) -> u16
         requires { bitpos ≤ 1000 }
-        ensures { result ≡ ten_ticks bytes.now len bitpos }
+        ensures { result ≡ ten_ticks self.now bitpos }
     {
         let pos = bitpos / 8;
-        let first = SampleWindow::byte(bytes, len, pos, 0) as u32;
-        let second = SampleWindow::byte(bytes, len, pos + 1, 0) as u32;
-        let third = SampleWindow::byte(bytes, len, pos + 2, 0) as u32;
+        let first = self.byte(pos, 0) as u32;
+        let second = self.byte(pos + 1, 0) as u32;
+        let third = self.byte(pos + 2, 0) as u32;
         let ticks = first * 65_536 + second * 256 + third;
         ((ticks >> (14 - bitpos % 8)) % 1024) as u16
     }
 
     // If all three peeks begin within the capture or its pad, they lie within the same ten ticks, and one read of these is enough.
-    fn peeks_around(bytes: &[u8; WINDOW_LEN], len: u16, bits: u16, at: u16) -> BitPeeks
+    #[tactic(auto, using(crate::proofs::Peeks::together), unfolding(crate::specs::Code::peeks_of))]
+    fn peeks_around(&self, at: u16) -> BitPeeks
         requires { (1 ≤ at) × (at ≤ 900) }
-        ensures { result ≡ peeks_of (window_with bytes.now len bits) at }
+        ensures { result ≡ peeks_of self.now at }
     {
-        if EARLIEST < at {
-            if (at + 1 - EARLIEST) / 8 < len {
-                let ticks = SampleWindow::ten_ticks(bytes, len, at - 1 - EARLIEST);
-                return BitPeeks {
-                    centre: (ticks / 2 % 256) as u8,
-                    early: (ticks / 4 % 256) as u8,
-                    late: (ticks % 256) as u8,
-                };
-            }
+        if EARLIEST < at && (at + 1 - EARLIEST) / 8 < self.len {
+            let ticks = self.ten_ticks(at - 1 - EARLIEST);
+            return BitPeeks {
+                centre: (ticks / 2 % 256) as u8,
+                early: (ticks / 4 % 256) as u8,
+                late: (ticks % 256) as u8,
+            };
         }
         BitPeeks {
-            centre: SampleWindow::peek8(bytes, len, bits, at),
-            early: SampleWindow::peek8(bytes, len, bits, at - 1),
-            late: SampleWindow::peek8(bytes, len, bits, at + 1),
+            centre: self.peek8(at),
+            early: self.peek8(at - 1),
+            late: self.peek8(at + 1),
         }
     }
 
     // A bit's weight, the stride to the next bit, and the stop. The stop depends on the late peek and on no other.
-    fn weighted_peek_around(
-        bytes: &[u8; WINDOW_LEN],
-        len: u16,
-        bits: u16,
-        bitpos: u16,
-        bias: u16,
-    ) -> PeekAround
-        requires { (1 ≤ bitpos) × (bitpos ≤ 600) × (bias ≤ 255) }
-        ensures { result ≡ around_of (window_with bytes.now len bits) (sub_ℕ bias 128) bitpos }
+    #[tactic(auto, using(crate::proofs::Turns::around))]
+    fn weighted_peek_around(&self, bitpos: u16, bias: u8) -> PeekAround
+        requires { (1 ≤ bitpos) × (bitpos ≤ 600) }
+        ensures { result ≡ around_of self.now (sub_ℕ bias 128) bitpos }
     {
-        let peeks = SampleWindow::peeks_around(bytes, len, bits, bitpos + bias);
+        let peeks = self.peeks_around(bitpos + bias as u16);
         let centre = weight::sample_weight(peeks.centre);
         let early = weight::sample_weight(peeks.early);
         let late = weight::sample_weight(peeks.late);
         PeekAround {
-            weightmax: larger(larger(centre, early), late),
+            weightmax: centre.max(early).max(late),
             pmax: stride(centre, early, late),
             stop: stop_of(peeks.late),
         }
     }
 
-    fn read_phase(self, max_out_bits: u8, bias: u16) -> PhaseRead
-        requires { bias ≤ 255 }
-        ensures { result ≡ summary_of (bits_of self max_out_bits (sub_ℕ bias 128)) }
+    // None if the phase fails.
+    #[tactic(auto, using(crate::proofs::Turns::turns))]
+    fn read_phase(&self, max_out_bits: u8, bias: u8) -> Option<Reading>
+        ensures { result ≡ summary_of (bits_of self.now max_out_bits (sub_ℕ bias 128)) }
     {
-        let bits = sample_bits(self.bits);
-        let mut bit_len: u8 = 0;
-        let mut score: u16 = 0;
-        let mut value: u64 = 0;
+        // No window that can be made has more sample bits than a full one, so this cuts none off.
+        let bits = self.bits.min(MOST_SAMPLE_BITS);
+        let mut read = Reading::EMPTY;
         let mut bitpos: u16 = 1;
         while bitpos + 1 < bits {
-            if max_out_bits < bit_len {
+            if max_out_bits < read.bit_len {
                 break;
             }
-            let around = SampleWindow::weighted_peek_around(
-                &self.bytes,
-                self.len,
-                self.bits,
-                bitpos,
-                bias,
-            );
-            let stop = around.stop;
-            match stop {
+            let around = self.weighted_peek_around(bitpos, bias);
+            match around.stop {
                 PeekStop::Idle => break,
-                PeekStop::Held => return PhaseRead::Held,
+                PeekStop::Held => return None,
                 PeekStop::None => {}
             }
-            score = score + around.weightmax as u16;
-            value = push_decoded_bit(value, bit_len, around.weightmax);
-            bit_len = bit_len + 1;
-            bitpos = bitpos + around.pmax;
+            read.score += around.weightmax as u16;
+            read.bits = push_decoded_bit(read.bits, read.bit_len, around.weightmax);
+            read.bit_len += 1;
+            bitpos += around.pmax;
         }
-        PhaseRead::Bits(Reading {
-            bit_len,
-            score,
-            bits: value,
-        })
+        Some(read)
     }
 
     pub fn decode_phase(self, max_out_bits: u8, phase_ticks: i8) -> PhaseDecode
         ensures { result ≡ phase_of self max_out_bits phase_ticks }
     {
-        let read = self.read_phase(max_out_bits, from_earliest(phase_ticks));
-        match read {
-            PhaseRead::Held => PhaseDecode::failed(phase_ticks),
-            PhaseRead::Bits(r) => PhaseDecode {
-                bit_len: reported(r.bit_len),
-                phase_ticks,
-                score: r.score,
-                data: placed(r.bits, stored(r.bit_len)),
-            },
+        let Some(read) = self.read_phase(max_out_bits, from_earliest(phase_ticks)) else {
+            return PhaseDecode::failed(phase_ticks);
+        };
+        PhaseDecode {
+            bit_len: reported(read.bit_len),
+            phase_ticks,
+            score: read.score,
+            data: placed(read.bits, stored(read.bit_len)),
         }
     }
 }
@@ -321,49 +299,28 @@ impl SampleWindow {
 pub fn samples_kept(sample_count: u16) -> usize
     ensures { result ≡ min sample_count 64 }
 {
-    let count = sample_count as usize;
-    if count < DALI_RX_SAMPLE_BUF_LEN {
-        count
-    } else {
-        DALI_RX_SAMPLE_BUF_LEN
-    }
-}
-
-// No window that can be made has more sample bits than a full one, so this cuts none off.
-fn sample_bits(bits: u16) -> u16
-    ensures { result ≡ min bits 512 }
-{
-    if bits < MOST_SAMPLE_BITS {
-        bits
-    } else {
-        MOST_SAMPLE_BITS
-    }
+    (sample_count as usize).min(DALI_RX_SAMPLE_BUF_LEN)
 }
 
 // The phase with `EARLIEST` added, so that it is never negative.
-fn from_earliest(phase_ticks: i8) -> u16
-    ensures result_value { sub_ℕ result 128 ≡ phase_ticks }
-    ensures upper_bound { result ≤ 255 }
+fn from_earliest(phase_ticks: i8) -> u8
+    ensures { sub_ℕ result 128 ≡ phase_ticks }
 {
-    (phase_ticks as i16 + 128) as u16
-}
-
-fn larger(a: u8, b: u8) -> u8
-    ensures { result ≡ max a b }
-{
-    if a < b { b } else { a }
+    (phase_ticks as i16 + 128) as u8
 }
 
 // The stride to the next bit. On a tie the centre wins over the early peek, and both win over the late one.
+#[tactic(auto, unfolding(crate::specs::Phase::stride_of, laws::specs::Pick::pick))]
 fn stride(centre: u8, early: u8, late: u8) -> u16
     ensures { result ≡ stride_of centre early late }
 {
-    if larger(centre, early) < late {
+    if centre.max(early) < late {
         return 9;
     }
     if centre < early { 7 } else { 8 }
 }
 
+#[tactic(auto, unfolding(crate::specs::Code::stop_of, laws::specs::Pick::pick))]
 fn stop_of(sample: u8) -> PeekStop
     ensures { result ≡ stop_of sample }
 {
@@ -380,16 +337,14 @@ fn push_decoded_bit(bits: u64, bit_len: u8, weightmax: u8) -> u64
     requires { bits < 2 ^ stored_of bit_len }
     ensures { result ≡ pushed_of bits bit_len weightmax }
 {
-    if bit_len == 0 {
-        return bits;
-    }
-    if STORED_BITS < bit_len {
+    if bit_len == 0 || STORED_BITS < bit_len {
         return bits;
     }
     bits * 2 + (weightmax % 2) as u64
 }
 
 // The length that the phase reports. It leaves the start bit out, unless that is the only bit.
+#[tactic(auto, unfolding(laws::specs::Pick::pick))]
 fn reported(bit_len: u8) -> u8
     ensures { result ≡ pick (ltb 1 bit_len) (bit_len - 1) bit_len }
 {
@@ -400,16 +355,11 @@ fn reported(bit_len: u8) -> u8
 fn stored(bit_len: u8) -> u8
     ensures { result ≡ stored_of bit_len }
 {
-    if bit_len == 0 {
-        0
-    } else if bit_len <= STORED_BITS {
-        bit_len - 1
-    } else {
-        STORED_BITS
-    }
+    bit_len.saturating_sub(1).min(STORED_BITS)
 }
 
 // The n stored bits, eight to a byte, the first byte on top. If the last byte is part-filled, its bits are the low ones.
+#[tactic(auto, using(crate::proofs::Placing::one_shifted, crate::proofs::Placing::sum_fits, crate::proofs::Placing::placed_fits, crate::proofs::Placing::placed_none))]
 fn placed(bits: u64, n: u8) -> u64
     requires { (bits < 2 ^ n) × (n ≤ 64) }
     ensures { result ≡ placed_of bits n }

@@ -1,10 +1,10 @@
 -- `SampleWindow::peek_before_start` meets its contract. The loop's invariant: the ticks read so far are packed, the first on top. Assumes nothing.
 use mathlib.Core.Path.{◌≡◌}
-use Prim.Native.Nat.{ℕ, ◌+◌, ◌-◌, ◌≤◌}
+use Prim.Native.Nat.{ℕ, ◌+◌}
 use lib.IntN.{sub_ℕ}
 use Rattle.laws.specs.Packed.{packed}
 use Rattle.window.specs.declared.SampleWindow.{SampleWindow}
-use Rattle.window.specs.Window.{window_with, level_before}
+use Rattle.window.specs.Window.{level_before}
 use Rattle.window.proofs.SampleWindow.peek_before_start.Given as goal
 
 -- the ticks from a position on
@@ -12,7 +12,4 @@ abbrev pub ticks : SampleWindow → ℕ → ℕ → ℕ
 ticks w at i = level_before w (sub_ℕ (at + i) 128)
 
 abbrev pub invariant-loop-offset : goal.invariant-loop-offset
-invariant-loop-offset l = (l.offset ≤ 8) × (l.sample ≡ packed 2 l.offset (ticks (window_with l.bytes l.len l.bits) l.at))
-
-abbrev pub decreases-loop-offset : goal.decreases-loop-offset
-decreases-loop-offset l = 8 - l.offset
+invariant-loop-offset l = l.sample ≡ packed 2 l.offset (ticks l.self l.at)
