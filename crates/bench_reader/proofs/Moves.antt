@@ -4,23 +4,24 @@ use native.Mathlib.Omega.{arith}
 use native.Mathlib.Numerals.{add-one}
 use mathlib.Core.Bool.{Bool, true, false}
 use mathlib.Core.List.{List}
-use mathlib.Core.Path.{◌≡◌, refl, sym, ap, ◌∙◌}
+use mathlib.Core.Logic.{◌⊎◌, inl, inr}
+use mathlib.Core.Path.{◌≡◌, ap, ◌∙◌}
 use lib.ListN.{length, take, drop, length-take}
 use lib.Seq.{sets, sets-eq, take_at}
 use lib.Dec.{leb}
 use borrow.Author.Tests.{le-leb}
+use Rattle.std.specs.Prelude.{Result, Ok}
 use Rattle.laws.proofs.Picked.{on_true}
 use Rattle.stdio.specs.declared.Report.{Report}
 use Rattle.stdio.specs.declared.Report.TheVariants.{Bytes as bytes_came, End as input_ended, Failed as read_failed}
 use Rattle.stdio.specs.Marks.{Came, Went, Complained}
 use Rattle.book.specs.declared.BookReader.{BookReader}
 use Rattle.book.specs.declared.Fed.{Fed}
-use Rattle.book.specs.declared.Said.{Said}
-use Rattle.book.specs.declared.Said.TheVariants.{Bytes}
+use Rattle.book.specs.declared.NoRoom.{NoRoom}
 use Rattle.book.specs.Reader.{is_over, after, said, bytes_in, feed_max, fed, buffer_fed, last_words, finish_max, finished, buffer_finished}
 use Rattle.bench_reader.specs.declared.Next.{Next}
 use Rattle.bench_reader.specs.declared.Next.TheVariants.{More, Over, End, Failed}
-use Rattle.bench_reader.specs.Run.{not_read, not_written, Ran, full, ended, unread, unwritten, fed as was_fed, is_more, Stops, Finished, Told, endless}
+use Rattle.bench_reader.specs.Run.{not_read, not_written, Ran, full, ended, unread, unwritten, fed as was_fed, Stops, Finished, Told, endless, broken_off}
 
 -- ---- the text at a buffer's start
 front : (text buffer : List ℕ) {buffer' : List ℕ} {n : ℕ} → buffer' ≡ sets buffer 0 text → n ≡ length text → n ≤ length buffer → take n buffer' ≡ text
@@ -28,13 +29,12 @@ front text buffer {buffer'} {n} e f h =
     let fits : 0 + length text ≤ length buffer = omega arith in
     ap (take n) (e ∙ sets-eq text buffer 0 fits) ∙ take_at text (drop (0 + length text) buffer) n (omega arith)
 
-in_bytes : {s : Said} {n m : ℕ} → s ≡ Bytes m → n ≡ bytes_in s → n ≡ m
-unfolding bytes_in
+in_bytes : {s : Result ℕ NoRoom} {n m : ℕ} → s ≡ Ok m → n ≡ bytes_in s → n ≡ m
 in_bytes e f = f ∙ ap bytes_in e
 
 -- ---- a chunk is fed, and its answers are written
 module _ (r : BookReader) (chunk out : List ℕ) (enough : leb (feed_max chunk) (length out) ≡ true) {f : Fed} (e : f ≡ fed r chunk (length out)) where
-  is_fed : f ≡ record { reader = after r chunk; said = Bytes (length (said r chunk)) }
+  is_fed : f ≡ record { reader = after r chunk; said = Ok (length (said r chunk)) }
   unfolding fed
   is_fed = e ∙ on_true enough _ _
 
@@ -71,27 +71,13 @@ module _ {reads : ℕ} {r : BookReader} (buffer : List ℕ) {report : Report} (r
   pub fails : report ≡ read_failed → Complained not_read → Ran (reads + 1) r Failed
   fails e told = rw (add-one reads) (unread reads r buffer run (rw e at came) told)
 
--- ---- turn after turn
-is_more_lem : (next : Next) → is_more next ≡ true → next ≡ More
-unfolding is_more
-is_more_lem More e = refl
-is_more_lem Over e = cc
-is_more_lem End e = cc
-is_more_lem Failed e = cc
-
-pub again : (reads : ℕ) {reads' : ℕ} {r : BookReader} {next : Next} {goes : Bool} → reads' ≡ reads + 1 → goes ≡ is_more next → goes ≡ true → Ran reads' r next → Ran (reads + 1) r More
-again reads {next = next} e g t run = rw (e, is_more_lem next (sym g ∙ t)) at run
-
-pub stopped : {reads : ℕ} (next : Next) {goes : Bool} → goes ≡ is_more next → goes ≡ false → Stops reads next
-stopped next g f more = let z : ◌≡◌ {A = ℕ} 0 1 = cc in omega arith
-
--- ---- no read is left
-pub no_end : {reads : ℕ} {r : BookReader} {next : Next} → next ≡ More → Ran reads r next → Stops reads next → Told
-unfolding is_more
-no_end {reads} {r} e run stops = endless r (rw (stops (ap is_more e), e) at run)
+-- ---- no read is left, or one failed
+pub no_words : {reads : ℕ} {r : BookReader} {next : Next} → (next ≡ More) ⊎ (next ≡ Failed) → Ran reads r next → Stops reads next → Told
+no_words {r = r} (inl e) run stops = endless r (rw (stops e, e) at run)
+no_words {r = r} (inr e) run stops = broken_off _ r (rw e at run)
 
 -- ---- the last words are written
-module _ (r : BookReader) (out : List ℕ) (room : finish_max ≤ length out) {s : Said} (e : s ≡ finished r (length out)) {out' : List ℕ}
+module _ (r : BookReader) (out : List ℕ) (room : finish_max ≤ length out) {s : Result ℕ NoRoom} (e : s ≡ finished r (length out)) {out' : List ℕ}
     (g : out' ≡ buffer_finished r out) (h : bytes_in s ≤ length out) {n : ℕ} (k : n ≡ bytes_in s) where
   last_text : take n out' ≡ last_words r
   unfolding finished buffer_finished

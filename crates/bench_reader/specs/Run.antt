@@ -45,19 +45,12 @@ pub data Ran : ℕ → BookReader → Next → Type 0 where
       → Ran reads r More → Came reads buffer (Bytes count) → Went (said r (take count buffer)) false → Complained not_written
       → Ran (suc reads) (after r (take count buffer)) Failed
 
--- whether a run reads again
-unfoldable pub is_more : Next → Bool
-is_more More = true
-is_more Over = false
-is_more End = false
-is_more Failed = false
-
 -- A run that would read again is broken off after 2 ^ 64 - 1 reads, and not before.
 abbrev pub reads_max : ℕ
 reads_max = 18446744073709551615
 
 abbrev pub Stops : ℕ → Next → Type 0
-Stops reads next = is_more next ≡ true → reads ≡ reads_max
+Stops reads next = next ≡ More → reads ≡ reads_max
 
 -- ---- the whole program
 -- The program wrote the reader's last words, or said that it could not.

@@ -4,15 +4,14 @@
 #![tactic(auto)]
 
 ghost use Rattle.std.specs.Prelude.{◌≡◌, ◌+◌, ◌<◌, length};
-ghost use Rattle.book.specs.Reader.{bytes_in};
 ghost use Rattle.stdio.specs.Marks.{Came, Complained, Within};
 ghost use Rattle.bench_reader.specs.Constants.{limits};
-ghost use Rattle.bench_reader.specs.Run.{not_written, Ran, is_more, reads_max, Stops, Finished, Told};
+ghost use Rattle.bench_reader.specs.Run.{not_written, Ran, reads_max, Stops, Finished, Told};
 ghost use Rattle.stdio.specs.declared.Report.TheVariants.{Bytes};
 ghost use Rattle.bench_reader.specs.declared.Next.TheVariants.{More};
 
 use bench_answers::ROW_MAX;
-use book::{BookReader, Said};
+use book::BookReader;
 use stdio::Report;
 
 // The bytes that one read can bring.
@@ -42,7 +41,7 @@ struct Limits {
 }
 
 // How a run goes on: it reads again; a byte came after the last line that is read; the input has ended; or a read or a write failed.
-#[derive(Clone, Copy)]
+#[derive(Clone, Copy, PartialEq, Eq)]
 enum Next {
     More,
     Over,
@@ -58,15 +57,6 @@ struct Run {
     next: Next,
 }
 
-fn bytes_in(said: Said) -> usize
-    ensures { result ≡ bytes_in said }
-{
-    match said {
-        Said::Bytes(n) => n,
-        Said::NoRoom => 0,
-    }
-}
-
 fn main(rt: HostRuntime) {
     let mut chunk = [0u8; CHUNK_MAX];
     let mut out = [0u8; ANSWERS_ROOM];
@@ -78,15 +68,13 @@ fn answer_book(rt: HostRuntime, chunk: &mut Chunk, out: &mut Answers)
     ensures { Told }
 {
     let run = read_all(rt, chunk, out);
-    let next = run.next;
-    match next {
-        Next::More => {}
-        Next::Failed => {}
+    match run.next {
+        Next::More | Next::Failed => {}
         Next::End => {
-            finish(rt, run, out);
+            finish(rt, run.reader, out);
         }
         Next::Over => {
-            finish(rt, run, out);
+            finish(rt, run.reader, out);
             stdio::complain(rt, b"note: no line after the 999,999th was read\n");
         }
     }
@@ -97,57 +85,31 @@ fn read_all(rt: HostRuntime, chunk: &mut Chunk, out: &mut Answers) -> Run
     ensures ran { Ran result.reads result.reader result.next }
     ensures stops { Stops result.reads result.next }
 {
-    let mut reader = BookReader::new();
-    let mut reads: u64 = 0;
-    while reads < u64::MAX {
-        let run = turn(rt, reads, reader, chunk, out);
-        let stops = !goes_on(run);
-        if stops {
-            return run;
-        }
-        reader = run.reader;
-        reads += 1;
-    }
-    Run {
-        reads,
-        reader,
+    let mut run = Run {
+        reads: 0,
+        reader: BookReader::new(),
         next: Next::More,
+    };
+    while run.next == Next::More && run.reads < u64::MAX {
+        run = turn(rt, run, chunk, out);
     }
-}
-
-fn goes_on(run: Run) -> bool
-    ensures { result ≡ is_more run.next }
-{
-    let next = run.next;
-    match next {
-        Next::More => true,
-        Next::Over => false,
-        Next::End => false,
-        Next::Failed => false,
-    }
+    run
 }
 
 // Reads once, and takes in what came.
-fn turn(
-    rt: HostRuntime,
-    reads: u64,
-    reader: BookReader,
-    chunk: &mut Chunk,
-    out: &mut Answers,
-) -> Run
-    requires reads_lt_reads_max { reads < reads_max }
-    requires ran { Ran reads reader More }
-    ensures reads_value { result.reads ≡ reads + 1 }
+fn turn(rt: HostRuntime, run: Run, chunk: &mut Chunk, out: &mut Answers) -> Run
+    requires reads_lt_reads_max { run.reads < reads_max }
+    requires ran { Ran run.reads run.reader More }
+    ensures reads_value { result.reads ≡ run.reads + 1 }
     ensures ran_2 { Ran result.reads result.reader result.next }
 {
-    let made = reads + 1;
-    let report = stdio::read_chunk(rt, reads, chunk);
-    match report {
-        Report::Bytes(count) => take_in(rt, reads, reader, chunk, count, out),
+    let reads = run.reads + 1;
+    match stdio::read_chunk(rt, run.reads, chunk) {
+        Report::Bytes(count) => take_in(rt, run, chunk, count, out),
         Report::End => Run {
-            reads: made,
-            reader,
+            reads,
             next: Next::End,
+            ..run
         },
         Report::Failed => {
             stdio::complain(
@@ -155,57 +117,38 @@ fn turn(
                 b"error: standard input can't be read, so there is no END line\n",
             );
             Run {
-                reads: made,
-                reader,
+                reads,
                 next: Next::Failed,
+                ..run
             }
         }
     }
 }
 
 // Feeds the reader what came, and writes what it says.
-fn take_in(
-    rt: HostRuntime,
-    reads: u64,
-    reader: BookReader,
-    chunk: &Chunk,
-    count: usize,
-    out: &mut Answers,
-) -> Run
-    requires reads_lt_reads_max { reads < reads_max }
-    requires ran { Ran reads reader More }
+fn take_in(rt: HostRuntime, run: Run, chunk: &Chunk, count: usize, out: &mut Answers) -> Run
+    requires reads_lt_reads_max { run.reads < reads_max }
+    requires ran { Ran run.reads run.reader More }
     requires within { Within (length chunk.now) (Bytes count) }
-    requires came { Came reads chunk.now (Bytes count) }
-    ensures reads_value { result.reads ≡ reads + 1 }
+    requires came { Came run.reads chunk.now (Bytes count) }
+    ensures reads_value { result.reads ≡ run.reads + 1 }
     ensures ran_2 { Ran result.reads result.reader result.next }
 {
-    let made = reads + 1;
-    let bytes: &[u8] = chunk;
-    let fed = reader.feed(&bytes[..count], out);
-    let next = fed.reader;
-    let said = fed.said;
-    let end = bytes_in(said);
-    let answers: &[u8] = out;
-    let failed = !stdio::write_text(rt, &answers[..end]);
-    if failed {
+    let fed = run.reader.feed(&chunk[..count], out);
+    let end = fed.said.unwrap_or(0);
+    let written = stdio::write_text(rt, &out[..end]);
+    let next = if !written {
         say_not_written(rt);
-        return Run {
-            reads: made,
-            reader: next,
-            next: Next::Failed,
-        };
-    }
-    if next.is_over() {
-        return Run {
-            reads: made,
-            reader: next,
-            next: Next::Over,
-        };
-    }
+        Next::Failed
+    } else if fed.reader.is_over() {
+        Next::Over
+    } else {
+        Next::More
+    };
     Run {
-        reads: made,
-        reader: next,
-        next: Next::More,
+        reads: run.reads + 1,
+        reader: fed.reader,
+        next,
     }
 }
 
@@ -216,17 +159,12 @@ fn say_not_written(rt: HostRuntime)
 }
 
 // Writes the reader's last words, and complains if that fails.
-fn finish(rt: HostRuntime, run: Run, out: &mut Answers) -> bool
-    requires { Ran run.reads run.reader run.next }
-    ensures { Finished run.reader result }
+fn finish(rt: HostRuntime, reader: BookReader, out: &mut Answers) -> bool
+    ensures { Finished reader result }
 {
-    let reader = run.reader;
-    let said = reader.finish(out);
-    let end = bytes_in(said);
-    let answers: &[u8] = out;
-    let done = stdio::write_text(rt, &answers[..end]);
-    let failed = !done;
-    if failed {
+    let end = reader.finish(out).unwrap_or(0);
+    let done = stdio::write_text(rt, &out[..end]);
+    if !done {
         say_not_written(rt);
     }
     done

@@ -7,6 +7,7 @@ use mathlib.Core.Path.{◌≡◌, refl, sym, ap, ◌∙◌}
 use lib.ListN.{length, take, drop, replicate}
 use lib.Seq.{length-take-le}
 use borrow.Author.Tests.{le-leb, lt-leb, eq-eqb, ne_eqb}
+use Rattle.std.specs.Prelude.{Option, Some, None, Result, Ok, Err, ok_or}
 use Rattle.laws.specs.Pick.{pick}
 use Rattle.laws.proofs.Picked.{on_true, on_false}
 use Rattle.text.specs.Letters.{word, tab}
@@ -14,37 +15,38 @@ use Rattle.text.specs.Fields.{count_at, field_at}
 use Rattle.text.specs.Words.{same_text}
 use Rattle.text.specs.Decimals.{value_of, is_up_to, byte_in}
 use Rattle.text.specs.Hex.{is_hex, filled_by}
-use Rattle.text.specs.declared.decimals.Byte.{Byte}
-use Rattle.text.specs.declared.decimals.Byte.TheVariants.{Is, Bad}
-use Rattle.text.proofs.DecimalLaws.{no_byte_read, byte_read}
-use Rattle.bench_text.specs.declared.BookLine.{BookLine}
-use Rattle.bench_text.specs.declared.BookLineAnswer.{BookLineAnswer}
-use Rattle.bench_text.specs.declared.BookLineAnswer.TheVariants.{Good, Refused}
+use Rattle.text.proofs.DecimalLaws.{no_number_read, number_read}
+use Rattle.bench_text.specs.declared.Capture.{Capture}
+use Rattle.bench_text.specs.declared.Refusal.{Refusal}
 use Rattle.bench_text.specs.declared.Refusal.TheVariants.{TooLong, NotFourFields, BadNumber, BadSamples}
 use Rattle.bench_text.specs.Rules.{silence_field, count_field, samples_field, line_max, silence_max, count_max, is_short, has_fields, has_numbers, has_samples, judged_by, judged, book_line_answer_number, refusal_in}
-use Rattle.bench_text.specs.Line.{capture_with, refused_line, good_line, book_line_as, book_line_of}
+use Rattle.bench_text.specs.Line.{capture_with, book_line_as, book_line_of}
 
 -- ---- the number of the answer
-answer_number : (answer : BookLineAnswer) (l : List ℕ) → book_line_answer_number (book_line_as answer l).answer ≡ book_line_answer_number answer
-unfolding book_line_as
-answer_number Good l = refl
-answer_number (Refused refusal) l = refl
+answer_number : (answer : Result (Unit {0}) Refusal) (l : List ℕ) → book_line_answer_number (book_line_as answer l) ≡ book_line_answer_number answer
+unfolding book_line_as book_line_answer_number
+answer_number (Ok good) l = refl
+answer_number (Err refusal) l = refl
 
 -- a result that keeps the first promise keeps the second
-pub with_number : (l : List ℕ) {r : BookLine} → r ≡ book_line_of l → (r ≡ book_line_of l) × (book_line_answer_number r.answer ≡ refusal_in l)
-with_number l e = (e, ap (λ (r : BookLine). book_line_answer_number r.answer) e ∙ answer_number (judged l) l)
+pub with_number : (l : List ℕ) {r : Result Capture Refusal} → r ≡ book_line_of l → (r ≡ book_line_of l) × (book_line_answer_number r ≡ refusal_in l)
+with_number l e = (e, ap book_line_answer_number e ∙ answer_number (judged l) l)
 
 -- ---- a field that is a number
 abbrev pub Number : ℕ → List ℕ → ℕ → Type 0
 Number most field n = (is_up_to most field ≡ true) × (value_of field ≡ n) × (n ≤ most)
 
 -- what the code read of a field of its own, told of the line's
-module _ (most : ℕ) {own field : List ℕ} (same : own ≡ field) {read : Byte} (e : read ≡ byte_in most own) where
-  pub no_number : read ≡ Bad → is_up_to most field ≡ false
-  no_number bad = no_byte_read most field (e ∙ ap (byte_in most) same) bad
+module _ (most : ℕ) {own field : List ℕ} (same : own ≡ field) where
+  pub no_number : {read : Option ℕ} → read ≡ byte_in most own → {r : Result ℕ Refusal} (refusal : Refusal) → r ≡ ok_or read refusal → {other : Refusal}
+      → r ≡ Err other → (is_up_to most field ≡ false) × (other ≡ refusal)
+  no_number {read = None} e refusal o err = (no_number_read most field (e ∙ ap (byte_in most) same) refl, cc)
+  no_number {read = Some m} e refusal o err = cc
 
-  pub a_number : {n : ℕ} → read ≡ Is n → Number most field n
-  a_number {n} is = byte_read most field (e ∙ ap (byte_in most) same) n is
+  pub a_number : {read : Option ℕ} → read ≡ byte_in most own → {r : Result ℕ Refusal} (refusal : Refusal) → r ≡ ok_or read refusal → {n : ℕ}
+      → r ≡ Ok n → Number most field n
+  a_number {read = None} e refusal o ok = cc
+  a_number {read = Some m} e refusal o {n} ok = number_read most field (e ∙ ap (byte_in most) same) n cc
 
 -- ---- the samples
 abbrev zeros : ℕ → List ℕ
@@ -68,25 +70,25 @@ module _ (l : List ℕ) {n : ℕ} (counted : n ≡ count_at tab l) where
 
 -- ---- the rules, one after the other
 module _ (l : List ℕ) where
-  pub too_long : line_max < length l → refused_line TooLong ≡ book_line_of l
+  pub too_long : line_max < length l → Err TooLong ≡ book_line_of l
   unfolding judged_by is_short book_line_as
   too_long h = rw (on_false (lt-leb (length l) line_max h))
 
   module _ (short : length l ≤ line_max) where
-    pub no_fields : has_fields l ≡ false → refused_line NotFourFields ≡ book_line_of l
+    pub no_fields : has_fields l ≡ false → Err NotFourFields ≡ book_line_of l
     unfolding judged_by is_short book_line_as
     no_fields e = rw (on_true (le-leb (length l) line_max short), on_false e)
 
     module _ (fields : has_fields l ≡ true) where
-      no_numbers : has_numbers l ≡ false → refused_line BadNumber ≡ book_line_of l
+      no_numbers : has_numbers l ≡ false → Err BadNumber ≡ book_line_of l
       unfolding judged_by is_short book_line_as
       no_numbers e = rw (on_true (le-leb (length l) line_max short), on_true fields, on_false e)
 
-      pub no_silence : is_up_to silence_max (silence_field l) ≡ false → refused_line BadNumber ≡ book_line_of l
+      pub no_silence : is_up_to silence_max (silence_field l) ≡ false → Err BadNumber ≡ book_line_of l
       unfolding has_numbers
       no_silence e = no_numbers (rw e)
 
-      pub no_count : is_up_to count_max (count_field l) ≡ false → refused_line BadNumber ≡ book_line_of l
+      pub no_count : is_up_to count_max (count_field l) ≡ false → Err BadNumber ≡ book_line_of l
       unfolding has_numbers
       no_count e = no_numbers (rw e (and-false (is_up_to silence_max (silence_field l))))
 
@@ -96,19 +98,19 @@ module _ (l : List ℕ) where
         unfolding has_samples
         by_samples = rw (count.1, sym same, e, length-take-le n (zeros count_max) count.2)
 
-        by_numbers : judged l ≡ pick good Good (Refused BadSamples)
+        by_numbers : judged l ≡ pick good (Ok tt) (Err BadSamples)
         unfolding judged_by is_short has_numbers
         by_numbers = rw (on_true (le-leb (length l) line_max short), on_true fields, silence.0, count.0, by_samples) (on_true refl _ _)
 
-        pub no_samples : good ≡ false → refused_line BadSamples ≡ book_line_of l
+        pub no_samples : good ≡ false → Err BadSamples ≡ book_line_of l
         unfolding book_line_as
         no_samples bad = rw (by_numbers, on_false bad)
 
         -- the bytes that were read, with zeros past them
-        pub good_line_lem : good ≡ true → {bytes : List ℕ} → bytes ≡ filled_by own (take n (zeros count_max))
-            → good_line (record { silence = s; count = n; samples = bytes ++ drop n (zeros count_max) }) ≡ book_line_of l
+        pub good_line : good ≡ true → {bytes : List ℕ} → bytes ≡ filled_by own (take n (zeros count_max))
+            → Ok (record { silence = s; count = n; samples = bytes ++ drop n (zeros count_max) }) ≡ book_line_of l
         unfolding book_line_as capture_with filled_by
-        good_line_lem taken {bytes} filled =
+        good_line taken {bytes} filled =
             rw (
               filled,
               on_true (sym e ∙ taken),

@@ -8,12 +8,12 @@ use lib.Dec.{eqb, ltb}
 use lib.Ieee.Bits.{is_true}
 use lib.ListN.{length, get_or, length-append}
 use borrow.Author.Tests.{le-leb, eq-eqb, ne_eqb}
+use Rattle.std.specs.Prelude.{Ok}
 use Rattle.laws.specs.Pick.{pick}
 use Rattle.laws.proofs.Below.{below}
 use Rattle.laws.proofs.Picked.{on_true}
 use Rattle.text.specs.Letters.{word, tab}
 use Rattle.text.specs.Fields.{fields_at, joined_by}
-use Rattle.text.specs.Words.{same_text}
 use Rattle.text.specs.Decimals.{is_digit, value_of, is_up_to, decimal_in, decimal_of}
 use Rattle.text.specs.Hex.{digit_value, all_hex, is_hex, hex_digit, hex_of, hexes_of}
 use Rattle.text.specs.ReadBack.{Without, AllBytes}
@@ -22,7 +22,7 @@ use Rattle.text.proofs.DecimalLaws.{both_true}
 use Rattle.text.proofs.DecimalDigits.{length_decimal, decimal_back}
 use Rattle.text.proofs.HexLaws.{length_hexes, hexes_hex, hexes_bytes}
 use Rattle.bench_text.specs.Rules.{line_max, silence_max, count_max, is_short, has_fields, has_numbers, has_samples, judged_by}
-use Rattle.bench_text.specs.Line.{capture_with, good_line, book_line_as, book_line_of}
+use Rattle.bench_text.specs.Line.{capture_with, book_line_as, book_line_of}
 use Rattle.bench_text.specs.ReadBack.{line_for, ReadBack}
 
 -- ---- fields without a tab
@@ -95,7 +95,7 @@ module _ (silence : ℕ) (samples : List ℕ) (low : silence ≤ silence_max) (f
   is_short_lem = le-leb (length text) line_max short
 
   good_fields : has_fields text ≡ true
-  unfolding has_fields same_text
+  unfolding has_fields
   good_fields = rw four
 
   good_numbers : has_numbers text ≡ true
@@ -107,7 +107,7 @@ module _ (silence : ℕ) (samples : List ℕ) (low : silence ≤ silence_max) (f
   good_samples =
       rw (four, value count few_byte, eq-eqb (length (hexes_of samples)) (2 * count) (length_hexes samples), hexes_hex samples bytes)
 
-  back : book_line_of text ≡ good_line (capture_with silence count samples)
+  back : book_line_of text ≡ Ok (capture_with silence count samples)
   unfolding judged_by book_line_as
   back =
       rw (
@@ -138,5 +138,5 @@ three_bytes (suc zero) = omega arith
 three_bytes (suc (suc zero)) = omega arith
 three_bytes (suc (suc (suc i))) = omega arith
 
-pub shown : book_line_of (word "C\t16\t3\t0ff0ff") ≡ good_line (capture_with 16 3 three)
+pub shown : book_line_of (word "C\t16\t3\t0ff0ff") ≡ Ok (capture_with 16 3 three)
 shown = ap book_line_of (sym line_shown) ∙ read_back 16 three (omega arith) (omega arith) three_bytes

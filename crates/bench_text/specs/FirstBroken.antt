@@ -1,6 +1,5 @@
 -- Document 01, "Refusal numbers": what a list of rules in their order means, whatever the rules are. Assumes nothing.
-use Rattle.std.specs.Prelude.{ℕ, Bool, true, false, ◌&&◌, List, [], ◌∷◌, ◌++◌, ◌↔◌, ◌≡◌}
-use Rattle.bench_text.specs.declared.BookLineAnswer.TheVariants.{Good, Refused}
+use Rattle.std.specs.Prelude.{ℕ, Bool, true, false, ◌&&◌, List, [], ◌∷◌, ◌++◌, Ok, Err, ◌↔◌, ◌≡◌}
 use Rattle.bench_text.specs.declared.Refusal.{Refusal}
 use Rattle.bench_text.specs.Rules.{Rule, rules, judged_by, refusal_number}
 
@@ -23,8 +22,8 @@ pub record FirstOf (rules : List Rule) (text : List ℕ) (refusal : Refusal) : T
 abbrev pub FirstBroken : Type 0
 FirstBroken =
     (rules : List Rule) (text : List ℕ)
-    → ((judged_by rules text ≡ Good) ↔ (all_hold rules text ≡ true))
-    × ((refusal : Refusal) → (judged_by rules text ≡ Refused refusal) ↔ FirstOf rules text refusal)
+    → ((judged_by rules text ≡ Ok tt) ↔ (all_hold rules text ≡ true))
+    × ((refusal : Refusal) → (judged_by rules text ≡ Err refusal) ↔ FirstOf rules text refusal)
 
 -- the refusal number of each rule
 unfoldable pub numbers_of : List Rule → List ℕ

@@ -1,13 +1,11 @@
 -- Document 01, "The bench reader" and "Refusal numbers": the rules of a line, in their order. A line is its bytes, without the LF. Assumes nothing.
-use Rattle.std.specs.Prelude.{ℕ, Bool, ◌&&◌, List, [], ◌∷◌, eqb, leb, length}
+use Rattle.std.specs.Prelude.{ℕ, Bool, ◌&&◌, List, [], ◌∷◌, Result, Ok, Err, eqb, leb, length}
 use Rattle.laws.specs.Pick.{pick}
 use Rattle.text.specs.Letters.{word, tab}
 use Rattle.text.specs.Fields.{count_at, field_at}
 use Rattle.text.specs.Words.{same_text}
 use Rattle.text.specs.Decimals.{value_of, is_up_to}
 use Rattle.text.specs.Hex.{is_hex}
-use Rattle.bench_text.specs.declared.BookLineAnswer.{BookLineAnswer}
-use Rattle.bench_text.specs.declared.BookLineAnswer.TheVariants.{Good, Refused}
 use Rattle.bench_text.specs.declared.Refusal.{Refusal}
 use Rattle.bench_text.specs.declared.Refusal.TheVariants.{TooLong, NotFourFields, BadNumber, BadSamples}
 
@@ -67,12 +65,12 @@ rules =
 
 -- ---- the answer
 -- A line is refused by the first rule that it breaks. A line that breaks none is good.
-unfoldable pub judged_by : List Rule → List ℕ → BookLineAnswer
-judged_by [] text = Good
-judged_by (rule ∷ rules) text = pick (rule.holds text) (judged_by rules text) (Refused rule.refusal)
+unfoldable pub judged_by : List Rule → List ℕ → Result (Unit {0}) Refusal
+judged_by [] text = Ok tt
+judged_by (rule ∷ rules) text = pick (rule.holds text) (judged_by rules text) (Err rule.refusal)
 
 -- the answer to a line
-abbrev pub judged : List ℕ → BookLineAnswer
+abbrev pub judged : List ℕ → Result (Unit {0}) Refusal
 judged text = judged_by rules text
 
 -- ---- the numbers
@@ -84,9 +82,9 @@ refusal_number BadNumber = 3
 refusal_number BadSamples = 4
 
 -- each answer with its number; 0 is no refusal
-unfoldable pub book_line_answer_number : BookLineAnswer → ℕ
-book_line_answer_number Good = 0
-book_line_answer_number (Refused refusal) = refusal_number refusal
+unfoldable pub book_line_answer_number : {A : Type 0} → Result A Refusal → ℕ
+book_line_answer_number (Ok good) = 0
+book_line_answer_number (Err refusal) = refusal_number refusal
 
 -- the refusal number of a line, and 0 for a good one
 abbrev pub refusal_in : List ℕ → ℕ

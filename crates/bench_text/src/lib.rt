@@ -5,9 +5,8 @@
 ghost use Rattle.std.specs.Prelude.{◌≡◌};
 ghost use Rattle.bench_text.specs.Constants.{public_constants};
 ghost use Rattle.bench_text.specs.Rules.{refusal_number, book_line_answer_number, refusal_in};
-ghost use Rattle.bench_text.specs.Line.{book_line_of, refused_line};
+ghost use Rattle.bench_text.specs.Line.{book_line_of};
 
-use text::decimals::Byte;
 use text::{decimals, fields, hex, words};
 use window::DALI_RX_SAMPLE_BUF_LEN;
 
@@ -43,12 +42,7 @@ pub enum Refusal {
 pub fn refusal_number(refusal: Refusal) -> u32
     ensures { result ≡ refusal_number refusal }
 {
-    match refusal {
-        Refusal::TooLong => Refusal::TooLong as u32,
-        Refusal::NotFourFields => Refusal::NotFourFields as u32,
-        Refusal::BadNumber => Refusal::BadNumber as u32,
-        Refusal::BadSamples => Refusal::BadSamples as u32,
-    }
+    refusal as u32
 }
 
 // What a good line says: the silence in ticks, the count, and the samples, which are 0 past the count.
@@ -59,64 +53,29 @@ pub struct Capture {
     pub samples: [u8; DALI_RX_SAMPLE_BUF_LEN],
 }
 
-#[derive(Clone, Copy)]
-pub enum BookLineAnswer {
-    Good,
-    Refused(Refusal),
-}
-
-// The capture stands beside the answer, since an enum holds no array. A refused line has an empty one.
-#[derive(Clone, Copy)]
-pub struct BookLine {
-    pub answer: BookLineAnswer,
-    pub capture: Capture,
-}
-
-pub fn parse_line(text: &[u8]) -> BookLine
+// A refused line gives its refusal, and a good one its capture.
+pub fn parse_line(text: &[u8]) -> Result<Capture, Refusal>
     ensures value { result ≡ book_line_of text.now }
-    ensures answer_value { book_line_answer_number result.answer ≡ refusal_in text.now }
+    ensures answer_value { book_line_answer_number result ≡ refusal_in text.now }
 {
     if LINE_MAX < text.len() {
-        return refused(Refusal::TooLong);
+        return Err(Refusal::TooLong);
     }
-    if fields::count(text, b'\t') != 4 {
-        return refused(Refusal::NotFourFields);
+    if fields::count(text, b'\t') != 4 || !words::is(fields::field(text, b'\t', 0), b"C") {
+        return Err(Refusal::NotFourFields);
     }
-    if !words::is(fields::field(text, b'\t', 0), b"C") {
-        return refused(Refusal::NotFourFields);
-    }
-    let Byte::Is(silence) = decimals::read_byte(fields::field(text, b'\t', 1), SILENCE_MAX) else {
-        return refused(Refusal::BadNumber);
-    };
-    let Byte::Is(count) = decimals::read_byte(fields::field(text, b'\t', 2), COUNT_MAX) else {
-        return refused(Refusal::BadNumber);
-    };
+    let silence_field = fields::field(text, b'\t', 1);
+    let count_field = fields::field(text, b'\t', 2);
+    let samples_field = fields::field(text, b'\t', 3);
+    let silence = decimals::read_byte(silence_field, SILENCE_MAX).ok_or(Refusal::BadNumber)?;
+    let count = decimals::read_byte(count_field, COUNT_MAX).ok_or(Refusal::BadNumber)?;
     let mut samples = [0u8; DALI_RX_SAMPLE_BUF_LEN];
-    let n = count as usize;
-    if !hex::read_hex(fields::field(text, b'\t', 3), &mut samples[..n]) {
-        return refused(Refusal::BadSamples);
+    if !hex::read_hex(samples_field, &mut samples[..count as usize]) {
+        return Err(Refusal::BadSamples);
     }
-    let capture = Capture {
+    Ok(Capture {
         silence,
         count,
         samples,
-    };
-    BookLine {
-        answer: BookLineAnswer::Good,
-        capture,
-    }
-}
-
-fn refused(refusal: Refusal) -> BookLine
-    ensures { result ≡ refused_line refusal }
-{
-    let capture = Capture {
-        silence: 0,
-        count: 0,
-        samples: [0; DALI_RX_SAMPLE_BUF_LEN],
-    };
-    BookLine {
-        answer: BookLineAnswer::Refused(refusal),
-        capture,
-    }
+    })
 }

@@ -4,29 +4,29 @@ use native.Mathlib.Omega.{arith}
 use mathlib.Core.Bool.{true, false}
 use mathlib.Core.List.{List, [], ◌∷◌, ◌++◌}
 use mathlib.Core.Path.{◌≡◌, refl, sym, ap, ◌∙◌}
-use lib.ListN.{length, take, drop, length-append, drop_of_length-le}
+use lib.ListN.{length, drop, length-append, drop_of_length-le}
 use lib.Seq.{sets, drop-length, length-sets}
 use borrow.Author.Tests.{le-leb, lt-leb}
+use Rattle.std.specs.Prelude.{Ok, Err}
 use Rattle.laws.proofs.Picked.{on_true, on_false}
 use Rattle.text.proofs.WritingLaws.{sets_append}
 use Rattle.lines.specs.declared.Lines.{Lines}
 use Rattle.lines.specs.declared.Taken.{Taken}
-use Rattle.lines.specs.Lines.{held_by, waiting, extended, emptied, part_from, ends_from, taken}
+use Rattle.lines.specs.Lines.{waiting, extended, emptied, part_from, ends_from, taken}
 use Rattle.lines.specs.Chunk.{ended, after as lines_after}
 use Rattle.lines.proofs.Steps.{line_ends, goes_on, no_line_ends, rest_waits, place_grows, place_within, place_is_end}
 use Rattle.bench_answers.specs.declared.Counts.{Counts}
 use Rattle.bench_answers.specs.Answer.{row_max}
 use Rattle.book.specs.declared.BookReader.{BookReader}
 use Rattle.book.specs.declared.Ended.{Ended}
-use Rattle.book.specs.declared.Said.TheVariants.{Bytes, NoRoom}
 use Rattle.book.specs.Report.{lines_max, answer_text}
-use Rattle.book.specs.Reader.{counted, after, said, bytes_in, feed_max, fed, buffer_fed}
+use Rattle.book.specs.Reader.{counted, after, said, bytes_in, no_room, feed_max, fed, buffer_fed}
 use Rattle.book.specs.Code.{AnsweredLine}
 use Rattle.book.proofs.Steps.{reader, read_said, read_after, passed_said, passed_after, waits_said, waits_after, none_said, none_after}
 
 pub not_fed : (r : BookReader) (chunk buffer : List ℕ) → length buffer < feed_max chunk
-    → (record { reader = r; said = NoRoom } ≡ fed r chunk (length buffer)) × ((buffer ≡ buffer_fed r chunk buffer) × (bytes_in NoRoom ≤ length buffer))
-unfolding fed buffer_fed bytes_in
+    → (record { reader = r; said = Err no_room } ≡ fed r chunk (length buffer)) × ((buffer ≡ buffer_fed r chunk buffer) × (bytes_in (Err no_room) ≤ length buffer))
+unfolding fed buffer_fed
 not_fed r chunk buffer h = let short = lt-leb (feed_max chunk) (length buffer) h in (sym (on_false short _ _), (sym (on_false short _ _), omega arith))
 
 -- With the chunk taken in up to a place, the reader r, the buffer and the place in it are on their way to where the whole chunk leads from r₀.
@@ -61,59 +61,48 @@ module _ {chunk before : List ℕ} {r₀ : BookReader} {buffer : List ℕ} {r : 
       }
 
   -- what `take` did
-  module _ (h : from < length chunk) {t : Taken} {held : List ℕ} (took : t ≡ taken r.lines chunk from)
-      (holds : held ≡ (extended r.lines (part_from chunk from)).held) where
-    waits : held_by held t.len ≡ extended r.lines (part_from chunk from)
-    unfolding taken
-    waits = rw (took, holds)
-
+  module _ (h : from < length chunk) {t : Taken} {next : Lines} (took : t ≡ taken chunk from) (holds : next ≡ extended r.lines (part_from chunk from)) where
     ends_as : {e : _} → t.ended ≡ e → ends_from chunk from ≡ e
     unfolding taken
     ends_as e = sym (ap (λ (u : Taken). u.ended) took) ∙ e
 
     pub place_on : from < t.next
-    place_on = rw took (place_grows r.lines chunk from h)
+    place_on = rw took (place_grows chunk from h)
 
     place_in : t.next ≤ length chunk
-    place_in = rw took (place_within r.lines chunk from (omega arith))
+    place_in = rw took (place_within chunk from (omega arith))
 
     module _ (e : t.ended ≡ true) where
-      ends : ended r.lines (drop from chunk) ≡ take t.len held ∷ ended (held_by held 0) (drop t.next chunk)
-      ends =
-          line_ends r.lines chunk from (ends_as e)
-          ∙ sym (ap (λ (k : Lines). waiting k ∷ ended (emptied k) (drop (taken r.lines chunk from).next chunk)) waits)
-          ∙ sym (ap (λ (u : Taken). take t.len held ∷ ended (held_by held 0) (drop u.next chunk)) took)
+      ends : ended r.lines (drop from chunk) ≡ waiting next ∷ ended (emptied next) (drop t.next chunk)
+      ends = rw (holds, took) (line_ends r.lines chunk from (ends_as e))
 
-      goes : lines_after r.lines (drop from chunk) ≡ lines_after (held_by held 0) (drop t.next chunk)
-      goes =
-          goes_on r.lines chunk from (ends_as e)
-          ∙ sym (ap (λ (k : Lines). lines_after (emptied k) (drop (taken r.lines chunk from).next chunk)) waits)
-          ∙ sym (ap (λ (u : Taken). lines_after (held_by held 0) (drop u.next chunk)) took)
+      goes : lines_after r.lines (drop from chunk) ≡ lines_after (emptied next) (drop t.next chunk)
+      goes = rw (holds, took) (goes_on r.lines chunk from (ends_as e))
 
-      pub line_read : r.counts.lines < lines_max → {buffer' : List ℕ} {a : Ended} → AnsweredLine r.counts (take t.len held) place buffer buffer' a
-          → Going chunk before r₀ buffer' (reader (held_by held 0) a.counts r.over) a.at t.next
+      pub line_read : r.counts.lines < lines_max → {buffer' : List ℕ} {a : Ended} → AnsweredLine r.counts (waiting next) place buffer buffer' a
+          → Going chunk before r₀ buffer' (reader (emptied next) a.counts r.over) a.at t.next
       line_read f {buffer'} {a} answered =
-          let now_counted : counted r.counts (take t.len held) ≡ a.counts = sym answered.counts in
-          turn (answer_text (suc r.counts.lines) (take t.len held)) place_on place_in
-          (read_after r _ _ _ _ ends goes f ∙ ap (λ (c : Counts). after (reader (held_by held 0) c r.over) (drop t.next chunk)) now_counted)
+          let now_counted : counted r.counts (waiting next) ≡ a.counts = sym answered.counts in
+          turn (answer_text (suc r.counts.lines) (waiting next)) place_on place_in
+          (read_after r _ _ _ _ ends goes f ∙ ap (λ (c : Counts). after (reader (emptied next) c r.over) (drop t.next chunk)) now_counted)
           (read_said r _ _ _ _ ends goes f
-          ∙ ap (λ (c : Counts). answer_text (suc r.counts.lines) (take t.len held) ++ said (reader (held_by held 0) c r.over) (drop t.next chunk)) now_counted)
+          ∙ ap (λ (c : Counts). answer_text (suc r.counts.lines) (waiting next) ++ said (reader (emptied next) c r.over) (drop t.next chunk)) now_counted)
           answered.left answered.past answered.within
 
-      pub line_passed : lines_max ≤ r.counts.lines → Going chunk before r₀ buffer (reader (held_by held 0) r.counts true) place t.next
+      pub line_passed : lines_max ≤ r.counts.lines → Going chunk before r₀ buffer (reader (emptied next) r.counts true) place t.next
       line_passed f = turn [] place_on place_in (passed_after r _ _ _ _ ends goes f) (passed_said r _ _ _ _ ends goes f) refl (omega arith) (omega arith)
 
     module _ (e : t.ended ≡ false) where
       none : drop t.next chunk ≡ []
-      none = rw (took, place_is_end r.lines chunk from (ends_as e) (omega arith)) (drop-length chunk)
+      none = rw (took, place_is_end chunk from (ends_as e) (omega arith)) (drop-length chunk)
 
-      pub chunk_ends : Going chunk before r₀ buffer (reader (held_by held t.len) r.counts r.over) place t.next
+      pub chunk_ends : Going chunk before r₀ buffer (reader next r.counts r.over) place t.next
       chunk_ends =
           let quiet = no_line_ends r.lines chunk from (ends_as e) in
-          let kept-all = rest_waits r.lines chunk from (ends_as e) ∙ sym waits in
+          let kept-all = rest_waits r.lines chunk from (ends_as e) ∙ sym holds in
           turn [] place_on place_in
-          (waits_after r _ _ quiet kept-all ∙ ap (after (reader (held_by held t.len) r.counts r.over)) (sym none))
-          (waits_said r _ _ quiet kept-all ∙ ap (said (reader (held_by held t.len) r.counts r.over)) (sym none))
+          (waits_after r _ _ quiet kept-all ∙ ap (after (reader next r.counts r.over)) (sym none))
+          (waits_said r _ _ quiet kept-all ∙ ap (said (reader next r.counts r.over)) (sym none))
           refl (omega arith) (omega arith)
 
   module _ (h : length chunk ≤ from) where
@@ -134,8 +123,8 @@ module _ {chunk before : List ℕ} {r₀ : BookReader} {buffer : List ℕ} {r : 
 
     -- the whole chunk is taken in
     pub is_fed : feed_max chunk ≤ length before
-        → (record { reader = r; said = Bytes place } ≡ fed r₀ chunk (length before)) × ((buffer ≡ buffer_fed r₀ chunk before) × (bytes_in (Bytes place) ≤ length before))
-    unfolding fed buffer_fed bytes_in
+        → (record { reader = r; said = Ok place } ≡ fed r₀ chunk (length before)) × ((buffer ≡ buffer_fed r₀ chunk before) × (bytes_in (Ok place) ≤ length before))
+    unfolding fed buffer_fed
     is_fed room =
         let enough = le-leb (feed_max chunk) (length before) room in (
           rw (led, all_told) (sym (on_true enough _ _)),

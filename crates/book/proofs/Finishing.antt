@@ -16,9 +16,9 @@ use Rattle.bench_answers.specs.declared.Counts.{Counts}
 use Rattle.bench_answers.specs.Answer.{end_max, end_text}
 use Rattle.book.specs.declared.BookReader.{BookReader}
 use Rattle.book.specs.declared.Ended.{Ended}
-use Rattle.book.specs.declared.Said.TheVariants.{Bytes, NoRoom}
+use Rattle.std.specs.Prelude.{Ok, Err}
 use Rattle.book.specs.Report.{lines_max, answer_text, answers_from}
-use Rattle.book.specs.Reader.{is_full, counted, counted_over, read_of, bytes_in, last_words, finish_max, finished, buffer_finished}
+use Rattle.book.specs.Reader.{is_full, counted, counted_over, read_of, bytes_in, no_room, last_words, finish_max, finished, buffer_finished}
 use Rattle.book.specs.Code.{AnsweredLine}
 use Rattle.book.proofs.Steps.{none_more, one_more}
 
@@ -26,17 +26,20 @@ pub not_full : (r : BookReader) → is_full r ≡ false → r.counts.lines < lin
 unfolding is_full
 not_full r f = leb-false lines_max r.counts.lines f
 
+pub full : (r : BookReader) → is_full r ≡ true → lines_max ≤ r.counts.lines
+unfolding is_full
+full r f = leb-true lines_max r.counts.lines f
+
 -- ---- the last line
 module _ (r : BookReader) where
   no_words : read_of r (last_of r.lines) ≡ [] → last_words r ≡ end_text r.counts
   unfolding last_words answers_from counted_over
   no_words e = rw e
 
-  full_words : is_full r ≡ true → last_words r ≡ end_text r.counts
-  unfolding is_full
-  full_words f = no_words (rw (none_more r.counts.lines (leb-true lines_max r.counts.lines f)))
+  pub full_words : is_full r ≡ true → last_words r ≡ end_text r.counts
+  full_words f = no_words (rw (none_more r.counts.lines (full r f)))
 
-  none_words : r.lines.len ≡ 0 → last_words r ≡ end_text r.counts
+  pub none_words : r.lines.len ≡ 0 → last_words r ≡ end_text r.counts
   unfolding last_of
   none_words e = no_words (rw (on_true (eq-eqb r.lines.len 0 e)) (take-nil (lines_max - r.counts.lines)))
 
@@ -48,35 +51,25 @@ module _ (r : BookReader) where
 
 -- ---- what is written
 module _ (r : BookReader) (buffer : List ℕ) where
-  pub too_short : length buffer < finish_max → (NoRoom ≡ finished r (length buffer)) × (buffer ≡ buffer_finished r buffer) × (bytes_in NoRoom ≤ length buffer)
-  unfolding finished buffer_finished bytes_in
+  pub too_short : length buffer < finish_max → (Err no_room ≡ finished r (length buffer)) × (buffer ≡ buffer_finished r buffer) × (bytes_in (Err no_room) ≤ length buffer)
+  unfolding finished buffer_finished
   too_short h = let short = lt-leb finish_max (length buffer) h in (sym (on_false short _ _), sym (on_false short _ _), omega arith)
 
   module _ (h : finish_max ≤ length buffer) (n : ℕ) (buffer' : List ℕ) where
     abbrev pub Finished : Type 0
-    Finished = (Bytes n ≡ finished r (length buffer)) × (buffer' ≡ buffer_finished r buffer) × (bytes_in (Bytes n) ≤ length buffer)
+    Finished = (Ok n ≡ finished r (length buffer)) × (buffer' ≡ buffer_finished r buffer) × (bytes_in (Ok n) ≤ length buffer)
 
     says : (text : List ℕ) → last_words r ≡ text → n ≡ 0 + length text → buffer' ≡ sets buffer 0 text → n ≤ finish_max → Finished
-    unfolding finished buffer_finished bytes_in
+    unfolding finished buffer_finished
     says text e past left most =
         let room = le-leb finish_max (length buffer) h in
         let all : n ≡ length (last_words r) = past ∙ omega arith ∙ ap length (sym e) in
-        (ap Bytes all ∙ sym (on_true room _ _), left ∙ ap (sets buffer 0) (sym e) ∙ sym (on_true room _ _), omega arith)
+        (ap Ok all ∙ sym (on_true room _ _), left ∙ ap (sets buffer 0) (sym e) ∙ sym (on_true room _ _), omega arith)
 
     -- the counts alone
-    module _ (past : n ≡ place_after end_max (end_text r.counts) 0 buffer) (left : buffer' ≡ buffer_after end_max (end_text r.counts) 0 buffer) (most : n ≤ 0 + end_max) where
-      ends : last_words r ≡ end_text r.counts → Finished
-      ends e = let wrote = stored end_max (end_text r.counts) 0 buffer (omega arith) (past, left) in says _ e wrote.0 wrote.1 (omega arith)
-
-      pub when_full : is_full r ≡ true → Finished
-      when_full f = ends (full_words r f)
-
-      pub when_none : r.lines.len ≡ 0 → Finished
-      when_none e = ends (none_words r e)
-
-      -- the buffer after it, by itself
-      pub none_left : r.lines.len ≡ 0 → buffer' ≡ buffer_finished r buffer
-      none_left e = (when_none e).1
+    pub when_none : n ≡ place_after end_max (end_text r.counts) 0 buffer → buffer' ≡ buffer_after end_max (end_text r.counts) 0 buffer
+        → n ≤ 0 + end_max → last_words r ≡ end_text r.counts → Finished
+    when_none past left most e = let wrote = stored end_max (end_text r.counts) 0 buffer (omega arith) (past, left) in says _ e wrote.0 wrote.1 (omega arith)
 
     -- the answer to a last line, and the counts behind it
     pub when_some : is_full r ≡ false → (r.lines.len ≡ 0 → ⊥) → (middle : List ℕ) (a : Ended) → AnsweredLine r.counts (waiting r.lines) 0 buffer middle a

@@ -18,10 +18,12 @@ use Rattle.lines.specs.Lines.{lines_of, line_room, waiting}
 use Rattle.lines.specs.Chunk.{ended, after as lines_after}
 use Rattle.lines.specs.AnyChunks.{last_of, ended_over, joined, shortened}
 use Rattle.lines.proofs.AnyChunks.{lines_of_any_chunks}
-use Rattle.bench_text.specs.declared.BookLine.{BookLine}
+use Rattle.std.specs.Prelude.{Result, Err}
+use Rattle.bench_text.specs.declared.Capture.{Capture}
+use Rattle.bench_text.specs.declared.Refusal.{Refusal}
 use Rattle.bench_text.specs.declared.Refusal.TheVariants.{TooLong}
 use Rattle.bench_text.specs.Rules.{line_max, is_short, judged_by}
-use Rattle.bench_text.specs.Line.{refused_line, book_line_as, book_line_of}
+use Rattle.bench_text.specs.Line.{book_line_as, book_line_of}
 use Rattle.bench_answers.specs.declared.Counts.{Counts}
 use Rattle.bench_answers.specs.Answer.{end_text}
 use Rattle.book.specs.declared.BookReader.{BookReader}
@@ -87,7 +89,7 @@ of_chunks r (chunk ∷ chunks) =
     ∙ ap (rest r.counts) (sym (take_append left now later))
 
 -- ---- a line is known by the bytes that are kept of it
-line_long : (l : List ℕ) → line_max < length l → book_line_of l ≡ refused_line TooLong
+line_long : (l : List ℕ) → line_max < length l → book_line_of l ≡ Err TooLong
 unfolding judged_by is_short book_line_as
 line_long l h = rw (on_false (lt-leb (length l) line_max h))
 
@@ -118,7 +120,7 @@ short_counted : (c : Counts) (ls : List (List ℕ)) → counted_over c (shortene
 unfolding counted_over shortened
 short_counted c [] = refl
 short_counted c (l ∷ ls) =
-    ap (λ (b : BookLine). counted_over (counted_as c b.answer b.capture) (shortened ls)) (known l (ltb line_room (length l)) refl)
+    ap (λ (b : Result Capture Refusal). counted_over (counted_as c b) (shortened ls)) (known l (ltb line_room (length l)) refl)
     ∙ short_counted (counted c l) ls
 
 short_rest : (c : Counts) (ls : List (List ℕ)) → rest c (shortened ls) ≡ rest c ls

@@ -1,19 +1,19 @@
 -- Document 01, "The bench reader": a reader that is fed chunk by chunk, what it has counted, and what it says. Assumes nothing.
-use Rattle.std.specs.Prelude.{ℕ, suc, ◌+◌, ◌*◌, ◌-◌, min, Bool, false, ◌&&◌, ◌||◌, List, [], ◌∷◌, ◌++◌, ltb, leb, length, take}
+use Rattle.std.specs.Prelude.{ℕ, suc, ◌+◌, ◌*◌, ◌-◌, min, Bool, false, ◌&&◌, ◌||◌, List, [], ◌∷◌, ◌++◌, Result, Ok, Err, ltb, leb, length, take}
+use Rattle.std.specs.Result.{result_unwrap_or}
 use Rattle.std.proofs.lemmas.List.Edits.{sets}
 use Rattle.laws.specs.Pick.{pick}
 use Rattle.lines.specs.Lines.{new_lines}
 use Rattle.lines.specs.Chunk.{ended, after as lines_after}
 use Rattle.lines.specs.AnyChunks.{last_of}
-use Rattle.bench_text.specs.declared.BookLineAnswer.{BookLineAnswer}
 use Rattle.bench_text.specs.declared.Capture.{Capture}
+use Rattle.bench_text.specs.declared.Refusal.{Refusal}
 use Rattle.bench_text.specs.Line.{book_line_of}
 use Rattle.bench_answers.specs.declared.Counts.{Counts}
 use Rattle.bench_answers.specs.Answer.{row_max, end_max, end_text}
 use Rattle.book.specs.declared.BookReader.{BookReader}
 use Rattle.book.specs.declared.Fed.{Fed}
-use Rattle.book.specs.declared.Said.{Said}
-use Rattle.book.specs.declared.Said.TheVariants.{Bytes, NoRoom}
+use Rattle.book.specs.declared.NoRoom.{NoRoom}
 use Rattle.book.specs.Report.{lines_max, answers_from, is_decoded_as, is_refused_as}
 
 -- A new reader has read and counted nothing.
@@ -37,17 +37,17 @@ abbrev pub one_more : ℕ → ℕ
 one_more n = min (n + 1) lines_max
 
 -- Each line counts once as a line, and once more if it is decoded or refused.
-unfoldable pub counted_as : Counts → BookLineAnswer → Capture → Counts
-counted_as c answer capture =
+unfoldable pub counted_as : Counts → Result Capture Refusal → Counts
+counted_as c answer =
     record {
       lines = c.lines + 1;
-      decoded = pick (is_decoded_as answer capture) (one_more c.decoded) c.decoded;
+      decoded = pick (is_decoded_as answer) (one_more c.decoded) c.decoded;
       refused = pick (is_refused_as answer) (one_more c.refused) c.refused;
     }
 
 -- the counts after one more line, and after several
 abbrev pub counted : Counts → List ℕ → Counts
-counted c text = counted_as c (book_line_of text).answer (book_line_of text).capture
+counted c text = counted_as c (book_line_of text)
 
 unfoldable pub counted_over : Counts → List (List ℕ) → Counts
 counted_over c [] = c
@@ -73,18 +73,20 @@ said r chunk = answers_from (suc r.counts.lines) (read_of r (ended r.lines chunk
 
 -- ---- what was written
 -- how many bytes were written at the start of the buffer
-unfoldable pub bytes_in : Said → ℕ
-bytes_in (Bytes n) = n
-bytes_in NoRoom = 0
+abbrev pub bytes_in : Result ℕ NoRoom → ℕ
+bytes_in said = result_unwrap_or said 0
 
 -- Room for one row for each byte of the chunk is always enough. With less room nothing is done.
 abbrev pub feed_max : List ℕ → ℕ
 feed_max chunk = row_max * length chunk
 
+abbrev pub no_room : NoRoom
+no_room = record {}
+
 -- what `feed` hands back, and the buffer after it
 unfoldable pub fed : BookReader → List ℕ → ℕ → Fed
 fed r chunk room =
-    pick (leb (feed_max chunk) room) (record { reader = after r chunk; said = Bytes (length (said r chunk)) }) (record { reader = r; said = NoRoom })
+    pick (leb (feed_max chunk) room) (record { reader = after r chunk; said = Ok (length (said r chunk)) }) (record { reader = r; said = Err no_room })
 
 unfoldable pub buffer_fed : BookReader → List ℕ → List ℕ → List ℕ
 buffer_fed r chunk buffer = pick (leb (feed_max chunk) (length buffer)) (sets buffer 0 (said r chunk)) buffer
@@ -101,8 +103,8 @@ abbrev pub finish_max : ℕ
 finish_max = row_max + end_max
 
 -- what `finish` hands back, and the buffer after it
-unfoldable pub finished : BookReader → ℕ → Said
-finished r room = pick (leb finish_max room) (Bytes (length (last_words r))) NoRoom
+unfoldable pub finished : BookReader → ℕ → Result ℕ NoRoom
+finished r room = pick (leb finish_max room) (Ok (length (last_words r))) (Err no_room)
 
 unfoldable pub buffer_finished : BookReader → List ℕ → List ℕ
 buffer_finished r buffer = pick (leb finish_max (length buffer)) (sets buffer 0 (last_words r)) buffer

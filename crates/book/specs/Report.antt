@@ -1,10 +1,9 @@
 -- Document 01, "The bench reader": what the reader prints for a book. Assumes nothing.
-use Rattle.std.specs.Prelude.{ℕ, suc, ◌+◌, Bool, true, false, List, [], ◌∷◌, ◌++◌, length, take}
+use Rattle.std.specs.Prelude.{ℕ, suc, ◌+◌, Bool, true, false, List, [], ◌∷◌, ◌++◌, Result, Ok, Err, length, take}
 use Rattle.laws.specs.Bit.{bit}
 use Rattle.lines.specs.Lines.{lines_of}
-use Rattle.bench_text.specs.declared.BookLineAnswer.{BookLineAnswer}
-use Rattle.bench_text.specs.declared.BookLineAnswer.TheVariants.{Good, Refused}
 use Rattle.bench_text.specs.declared.Capture.{Capture}
+use Rattle.bench_text.specs.declared.Refusal.{Refusal}
 use Rattle.bench_text.specs.Line.{book_line_of}
 use Rattle.bench_reading.specs.Reading.{reading_of, is_decoded}
 use Rattle.bench_answers.specs.declared.Counts.{Counts}
@@ -12,30 +11,30 @@ use Rattle.bench_answers.specs.Answer.{row_text, bad_text, end_text}
 
 -- ---- the answer to a line
 -- A good line is answered by a row, and a refused one by a BAD line.
-unfoldable pub answer_as : ℕ → BookLineAnswer → Capture → List ℕ
-answer_as number Good capture = row_text number capture (reading_of capture)
-answer_as number (Refused refusal) capture = bad_text number refusal
+unfoldable pub answer_as : ℕ → Result Capture Refusal → List ℕ
+answer_as number (Ok capture) = row_text number capture (reading_of capture)
+answer_as number (Err refusal) = bad_text number refusal
 
 -- the answer to the text of a line
 abbrev pub answer_text : ℕ → List ℕ → List ℕ
-answer_text number text = answer_as number (book_line_of text).answer (book_line_of text).capture
+answer_text number text = answer_as number (book_line_of text)
 
 -- ---- what is counted
 -- A good line is decoded if its capture is read as a frame of 8, 16 or 24 bits. A refused line is not decoded.
-unfoldable pub is_decoded_as : BookLineAnswer → Capture → Bool
-is_decoded_as Good capture = is_decoded (reading_of capture)
-is_decoded_as (Refused refusal) capture = false
+unfoldable pub is_decoded_as : Result Capture Refusal → Bool
+is_decoded_as (Ok capture) = is_decoded (reading_of capture)
+is_decoded_as (Err refusal) = false
 
-unfoldable pub is_refused_as : BookLineAnswer → Bool
-is_refused_as Good = false
-is_refused_as (Refused refusal) = true
+unfoldable pub is_refused_as : Result Capture Refusal → Bool
+is_refused_as (Ok capture) = false
+is_refused_as (Err refusal) = true
 
 -- the same for the text of a line
 abbrev pub is_decoded_line : List ℕ → Bool
-is_decoded_line text = is_decoded_as (book_line_of text).answer (book_line_of text).capture
+is_decoded_line text = is_decoded_as (book_line_of text)
 
 abbrev pub is_refused_line : List ℕ → Bool
-is_refused_line text = is_refused_as (book_line_of text).answer
+is_refused_line text = is_refused_as (book_line_of text)
 
 -- how many of the lines pass a test
 unfoldable pub count_of : (List ℕ → Bool) → List (List ℕ) → ℕ

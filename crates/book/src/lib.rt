@@ -2,18 +2,16 @@
 // lent buffer. It makes no difference where the book is cut into chunks.
 #![tactic(auto)]
 
-ghost use Rattle.std.specs.Prelude.{◌≡◌, ◌+◌, ◌*◌, ◌≤◌, ◌<◌, length, take as first};
+ghost use Rattle.std.specs.Prelude.{◌≡◌, ◌+◌, ◌*◌, ◌≤◌, ◌<◌, length, Ok, Err};
 ghost use Rattle.bench_answers.specs.Answer.{row_max};
-ghost use Rattle.bench_text.specs.declared.BookLineAnswer.TheVariants.{Good, Refused};
 ghost use Rattle.book.specs.Constants.{public_constants};
 ghost use Rattle.book.specs.Report.{lines_max};
 ghost use Rattle.book.specs.Reader.{one_more, new_reader, is_full, is_over, bytes_in, fed, buffer_fed, finished, buffer_finished};
-ghost use Rattle.book.specs.Code.{Answered, AnsweredLine, any_capture};
+ghost use Rattle.book.specs.Code.{Answered, AnsweredLine};
 
 use bench_answers::{Counts, END_MAX, ROW_MAX};
-use bench_text::{BookLineAnswer, Capture, Refusal};
-use lines::{LINE_ROOM, Lines};
-use text::fields;
+use bench_text::{Capture, Refusal};
+use lines::Lines;
 
 // The reader reads this many lines of a book, and no line after them.
 pub const MAX_LINES: u32 = 999_999;
@@ -46,17 +44,15 @@ pub struct BookReader {
     over: bool,
 }
 
-// How many bytes were written at the start of the buffer. `NoRoom` tells that the buffer is too short and nothing was done.
-#[derive(Clone, Copy)]
-pub enum Said {
-    Bytes(usize),
-    NoRoom,
-}
+// The buffer is too short, and nothing was done.
+#[derive(Clone, Copy, PartialEq, Eq)]
+pub struct NoRoom;
 
+// The reader after a chunk, and how many bytes it wrote at the start of the buffer.
 #[derive(Clone, Copy)]
 pub struct Fed {
     pub reader: BookReader,
-    pub said: Said,
+    pub said: Result<usize, NoRoom>,
 }
 
 // The counts after a line has been answered, and the place past its answer.
@@ -71,15 +67,13 @@ impl BookReader {
     pub fn new() -> BookReader
         ensures { result ≡ new_reader }
     {
-        let lines = Lines::new();
-        let counts = Counts {
-            lines: 0,
-            decoded: 0,
-            refused: 0,
-        };
         BookReader {
-            lines,
-            counts,
+            lines: Lines::new(),
+            counts: Counts {
+                lines: 0,
+                decoded: 0,
+                refused: 0,
+            },
             over: false,
         }
     }
@@ -97,13 +91,7 @@ impl BookReader {
     pub fn is_over(self) -> bool
         ensures { result ≡ is_over self }
     {
-        if self.over {
-            return true;
-        }
-        if self.is_full() {
-            return 0 < self.lines.len;
-        }
-        false
+        self.over || (self.is_full() && 0 < self.lines.len)
     }
 
     // Answers every line that ends in the chunk. It asks for `ROW_MAX` bytes of the buffer for each byte of the chunk, which is always enough.
@@ -115,72 +103,54 @@ impl BookReader {
         if out.len() / ROW_MAX < chunk.len() {
             return Fed {
                 reader: self,
-                said: Said::NoRoom,
+                said: Err(NoRoom),
             };
         }
         self.take_in(chunk, out)
     }
 
-    fn take_in(self, chunk: &[u8], out: &mut [u8]) -> Fed
+    fn take_in(mut self, chunk: &[u8], out: &mut [u8]) -> Fed
         requires { row_max * length chunk.now ≤ length out.old }
         ensures value { result ≡ fed self chunk.now (length out.old) }
         ensures out_after { out.new ≡ buffer_fed self chunk.now out.old }
         ensures said_in_bounds { bytes_in result.said ≤ length out.old }
     {
-        let lines = self.lines;
-        let mut held = lines.held;
-        let mut len = lines.len;
-        let mut counts = self.counts;
-        let mut over = self.over;
-        let mut at: usize = 0;
-        let mut from: usize = 0;
+        let mut at = 0;
+        let mut from = 0;
         while from < chunk.len() {
-            let taken = lines::take(&mut held, len, chunk, from);
+            let taken = self.lines.take(chunk, from);
             from = taken.next;
-            len = taken.len;
             if taken.ended {
-                if counts.lines < MAX_LINES {
-                    let ended = end_line(counts, &held, len, out, at);
-                    counts = ended.counts;
-                    at = ended.at;
+                if self.is_full() {
+                    self.over = true;
                 } else {
-                    over = true;
+                    let ended = end_line(self.counts, self.lines.line(), out, at);
+                    self.counts = ended.counts;
+                    at = ended.at;
                 }
-                len = 0;
+                self.lines.len = 0;
             }
         }
-        let waits = Lines { held, len };
         Fed {
-            reader: BookReader {
-                lines: waits,
-                counts,
-                over,
-            },
-            said: Said::Bytes(at),
+            reader: self,
+            said: Ok(at),
         }
     }
 
     // Answers the end of the input: a last line without its LF, and then the counts.
-    #[tactic(auto, using(crate::proofs::Finishing::when_none, crate::proofs::Finishing::none_left), unfolding(crate::specs::Reader::bytes_in))]
-    pub fn finish(self, out: &mut [u8]) -> Said
+    pub fn finish(self, out: &mut [u8]) -> Result<usize, NoRoom>
         ensures value { result ≡ finished self (length out.old) }
         ensures out_after { out.new ≡ buffer_finished self out.old }
         ensures result_in_bounds { bytes_in result ≤ length out.old }
     {
         if out.len() < FINISH_MAX {
-            return Said::NoRoom;
+            return Err(NoRoom);
         }
-        if self.is_full() {
-            return Said::Bytes(bench_answers::put_end(out, 0, self.counts));
+        if self.is_full() || self.lines.len == 0 {
+            return Ok(bench_answers::put_end(out, 0, self.counts));
         }
-        let lines = self.lines;
-        let len = lines.len;
-        if len == 0 {
-            return Said::Bytes(bench_answers::put_end(out, 0, self.counts));
-        }
-        let held = lines.held;
-        let ended = end_line(self.counts, &held, len, out, 0);
-        Said::Bytes(bench_answers::put_end(out, ended.at, ended.counts))
+        let ended = end_line(self.counts, self.lines.line(), out, 0);
+        Ok(bench_answers::put_end(out, ended.at, ended.counts))
     }
 }
 
@@ -188,42 +158,33 @@ impl BookReader {
 fn one_more(count: u32) -> u32
     ensures { result ≡ one_more count }
 {
-    if count < MAX_LINES {
-        count + 1
-    } else {
-        MAX_LINES
-    }
+    count.saturating_add(1).min(MAX_LINES)
 }
 
-// Answers a whole line, the first `len` bytes of `held`, and counts it.
-fn end_line(counts: Counts, held: &[u8; LINE_ROOM], len: usize, out: &mut [u8], at: usize) -> Ended
+// Answers a whole line and counts it.
+fn end_line(counts: Counts, text: &[u8], out: &mut [u8], at: usize) -> Ended
     requires lines_lt_lines_max { counts.lines < lines_max }
     requires row_max_in_bounds { at + row_max ≤ length out.old }
-    ensures { AnsweredLine counts (first len held.now) at out.old out.new result }
+    ensures { AnsweredLine counts text.now at out.old out.new result }
 {
-    let read = bench_text::parse_line(fields::first(held, len));
-    let answer = read.answer;
-    match answer {
-        BookLineAnswer::Good => {
-            let capture = read.capture;
-            answer_capture(counts, capture, out, at)
-        }
-        BookLineAnswer::Refused(refusal) => answer_refused(counts, refusal, out, at),
+    match bench_text::parse_line(text) {
+        Ok(capture) => answer_capture(counts, capture, out, at),
+        Err(refusal) => answer_refused(counts, refusal, out, at),
     }
 }
 
 fn answer_refused(counts: Counts, refusal: Refusal, out: &mut [u8], at: usize) -> Ended
     requires lines_lt_lines_max { counts.lines < lines_max }
     requires row_max_in_bounds { at + row_max ≤ length out.old }
-    ensures { Answered counts (Refused refusal) any_capture at out.old out.new result }
+    ensures { Answered counts (Err refusal) at out.old out.new result }
 {
     let lines = counts.lines + 1;
     let end = bench_answers::put_bad(out, at, lines, refusal);
     Ended {
         counts: Counts {
             lines,
-            decoded: counts.decoded,
             refused: one_more(counts.refused),
+            ..counts
         },
         at: end,
     }
@@ -233,7 +194,7 @@ fn answer_refused(counts: Counts, refusal: Refusal, out: &mut [u8], at: usize) -
 fn answer_capture(counts: Counts, capture: Capture, out: &mut [u8], at: usize) -> Ended
     requires lines_lt_lines_max { counts.lines < lines_max }
     requires row_max_in_bounds { at + row_max ≤ length out.old }
-    ensures { Answered counts Good capture at out.old out.new result }
+    ensures { Answered counts (Ok capture) at out.old out.new result }
 {
     let reading = bench_reading::read_capture(capture);
     let lines = counts.lines + 1;
@@ -247,7 +208,7 @@ fn answer_capture(counts: Counts, capture: Capture, out: &mut [u8], at: usize) -
         counts: Counts {
             lines,
             decoded,
-            refused: counts.refused,
+            ..counts
         },
         at: end,
     }

@@ -38,40 +38,12 @@ pub none_kept : (lines : Lines) → after lines [] ≡ lines
 unfolding after_parts parted_at
 none_kept lines = kept_none lines
 
-module _ (lines : Lines) (chunk : List ℕ) (from : ℕ) where
+-- ---- the place
+module _ (chunk : List ℕ) (from : ℕ) where
   next_of : {t : Bool} → ends_from chunk from ≡ t → (taken chunk from).next ≡ from + bytes_before lf (drop from chunk) + bit t
   unfolding taken
   next_of e = rw e
 
-  -- ---- a line ends
-  cut : ends_from chunk from ≡ true → fields_at lf (drop from chunk) ≡ part_from chunk from ∷ fields_at lf (drop (taken chunk from).next chunk)
-  cut e =
-      let h = ltb-true (bytes_before lf (drop from chunk)) (length (drop from chunk)) e in
-      let within : from + bytes_before lf (drop from chunk) < length chunk = omega (arith, length-drop from chunk) in
-      let count : from + bytes_before lf (drop from chunk) - from ≡ bytes_before lf (drop from chunk) = omega arith in
-      rw (next_of e) (rw count at (cut_at lf chunk from (from + bytes_before lf (drop from chunk)) refl ([] ∷ []) within))
-
-  pub line_ends : ends_from chunk from ≡ true
-      → ended lines (drop from chunk)
-      ≡ waiting (extended lines (part_from chunk from)) ∷ ended (emptied (extended lines (part_from chunk from))) (drop (taken chunk from).next chunk)
-  line_ends e = ap (ended_parts lines) (cut e) ∙ part_ends lines (part_from chunk from) _ (fields_some lf _)
-
-  pub goes_on : ends_from chunk from ≡ true
-      → after lines (drop from chunk) ≡ after (emptied (extended lines (part_from chunk from))) (drop (taken chunk from).next chunk)
-  goes_on e = ap (after_parts lines) (cut e) ∙ part_passes lines (part_from chunk from) _ (fields_some lf _)
-
-  -- ---- the chunk ends
-  pub no_line_ends : ends_from chunk from ≡ false → ended lines (drop from chunk) ≡ []
-  unfolding ended_parts
-  no_line_ends e = ap (ended_parts lines) (fields_last lf (drop from chunk) (ltb-false (bytes_before lf (drop from chunk)) (length (drop from chunk)) e))
-
-  pub rest_waits : ends_from chunk from ≡ false → after lines (drop from chunk) ≡ extended lines (part_from chunk from)
-  unfolding after_parts
-  rest_waits e =
-      let h = ltb-false (bytes_before lf (drop from chunk)) (length (drop from chunk)) e in
-      ap (after_parts lines) (fields_last lf (drop from chunk) h) ∙ rw (take_all (bytes_before lf (drop from chunk)) (drop from chunk) h)
-
-  -- ---- the place
   pub place_is_end : ends_from chunk from ≡ false → from ≤ length chunk → (taken chunk from).next ≡ length chunk
   place_is_end e h =
       let over = ltb-false (bytes_before lf (drop from chunk)) (length (drop from chunk)) e in
@@ -92,3 +64,32 @@ module _ (lines : Lines) (chunk : List ℕ) (from : ℕ) where
           let within = ltb-true (bytes_before lf (drop from chunk)) (length (drop from chunk)) e in
           omega (arith, next_of e, length-drop from chunk)
       split false e = omega (arith, place_is_end e h)
+
+module _ (lines : Lines) (chunk : List ℕ) (from : ℕ) where
+  -- ---- a line ends
+  cut : ends_from chunk from ≡ true → fields_at lf (drop from chunk) ≡ part_from chunk from ∷ fields_at lf (drop (taken chunk from).next chunk)
+  cut e =
+      let h = ltb-true (bytes_before lf (drop from chunk)) (length (drop from chunk)) e in
+      let within : from + bytes_before lf (drop from chunk) < length chunk = omega (arith, length-drop from chunk) in
+      let count : from + bytes_before lf (drop from chunk) - from ≡ bytes_before lf (drop from chunk) = omega arith in
+      rw (next_of chunk from e) (rw count at (cut_at lf chunk from (from + bytes_before lf (drop from chunk)) refl ([] ∷ []) within))
+
+  pub line_ends : ends_from chunk from ≡ true
+      → ended lines (drop from chunk)
+      ≡ waiting (extended lines (part_from chunk from)) ∷ ended (emptied (extended lines (part_from chunk from))) (drop (taken chunk from).next chunk)
+  line_ends e = ap (ended_parts lines) (cut e) ∙ part_ends lines (part_from chunk from) _ (fields_some lf _)
+
+  pub goes_on : ends_from chunk from ≡ true
+      → after lines (drop from chunk) ≡ after (emptied (extended lines (part_from chunk from))) (drop (taken chunk from).next chunk)
+  goes_on e = ap (after_parts lines) (cut e) ∙ part_passes lines (part_from chunk from) _ (fields_some lf _)
+
+  -- ---- the chunk ends
+  pub no_line_ends : ends_from chunk from ≡ false → ended lines (drop from chunk) ≡ []
+  unfolding ended_parts
+  no_line_ends e = ap (ended_parts lines) (fields_last lf (drop from chunk) (ltb-false (bytes_before lf (drop from chunk)) (length (drop from chunk)) e))
+
+  pub rest_waits : ends_from chunk from ≡ false → after lines (drop from chunk) ≡ extended lines (part_from chunk from)
+  unfolding after_parts
+  rest_waits e =
+      let h = ltb-false (bytes_before lf (drop from chunk)) (length (drop from chunk)) e in
+      ap (after_parts lines) (fields_last lf (drop from chunk) h) ∙ rw (take_all (bytes_before lf (drop from chunk)) (drop from chunk) h)

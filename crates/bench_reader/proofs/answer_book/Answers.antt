@@ -1,13 +1,10 @@
 -- `bench_reader::answer_book` meets its contract. Assumes nothing.
-use Rattle.bench_reader.specs.Run.{to_the_end, to_the_last_line, broken_off}
-use Rattle.bench_reader.proofs.Moves.{no_end}
+use Rattle.bench_reader.specs.Run.{to_the_end, to_the_last_line}
+use Rattle.bench_reader.proofs.Moves.{no_words}
 use Rattle.bench_reader.proofs.answer_book.Goals as goal
 
 pub returns-in-More : goal.returns-in-More
-returns-in-More c = no_end c.in-More.is c.read_all-run.ensures.ran c.read_all-run.ensures.stops
-
-pub returns-in-Failed : goal.returns-in-Failed
-returns-in-Failed c = broken_off _ _ (rw c.in-Failed.is at c.read_all-run.ensures.ran)
+returns-in-More c = no_words c.in-More.is c.read_all-run.ensures.ran c.read_all-run.ensures.stops
 
 pub returns-in-End : goal.returns-in-End
 returns-in-End c = to_the_end _ _ _ (rw c.in-End.is at c.read_all-run.ensures.ran) c.finish.ensures

@@ -1,11 +1,10 @@
 -- `bench_reader::read_all` ends: the reads are counted. Assumes nothing.
 use Rattle.std.proofs.Common.{◌-◌, ◌≤◌}
 use Rattle.bench_reader.specs.Run.{Ran, reads_max}
-use Rattle.bench_reader.specs.declared.Next.TheVariants.{More}
 use Rattle.bench_reader.proofs.read_all.Given as goal
 
-abbrev pub invariant-loop-reads : goal.invariant-loop-reads
-invariant-loop-reads l = record { ran : Ran l.reads l.reader More; counted : l.reads ≤ reads_max }
+abbrev pub invariant-loop-rt : goal.invariant-loop-rt
+invariant-loop-rt l = record { ran : Ran l.run.reads l.run.reader l.run.next; counted : l.run.reads ≤ reads_max }
 
-abbrev pub decreases-loop-reads : goal.decreases-loop-reads
-decreases-loop-reads l = reads_max - l.reads
+abbrev pub decreases-loop-rt : goal.decreases-loop-rt
+decreases-loop-rt l = reads_max - l.run.reads
