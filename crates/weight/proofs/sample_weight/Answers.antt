@@ -1,4 +1,4 @@
--- `weight::sample_weight` meets its contract: each need is a test of the one byte, which antt computes at all 256. Assumes nothing.
+-- `weight::sample_weight` meets its contract: each goal is a test of the one byte, which antt computes at all 256. Assumes nothing.
 use mathlib.Core.Path.{◌≡◌}
 use mathlib.Core.Bool.{Bool, true, false}
 use Prim.Native.Nat.{ℕ, ◌/◌, ◌%◌, ◌<◌}
@@ -59,12 +59,6 @@ module _ (n : ℕ) (small : n < 256) (a b : ℤ) (first : a ≡ half_weight (n /
         record { fits = ltb→lt (nat_abs (back (twice n))) 256 (below_on false below_zero (λ n. ltb (nat_abs (back (twice n))) 256) 256 tt n small d) },
         eqb→eq (nat_abs (back (twice n))) (weight_of n) (below_on false below_zero (λ n. eqb (nat_abs (back (twice n))) (weight_of n)) 256 tt n small d),
       )
-
-pub half_weight-first-requires : goal.half_weight-first-requires
-half_weight-first-requires c = omega arith
-
-pub half_weight-second-requires : goal.half_weight-second-requires
-half_weight-second-requires c = omega arith
 
 pub overflow_sub-w : goal.overflow_sub-w
 overflow_sub-w c = (fits_all c.args.sample (omega arith) _ _ c.half_weight-first.ensures c.half_weight-second.ensures).0
