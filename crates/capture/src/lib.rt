@@ -23,6 +23,7 @@ pub struct Samples {
 const WORDS: usize = DALI_RX_SAMPLE_BUF_LEN / 8;
 
 impl Samples {
+    #[tactic(auto, unfolding(crate::specs::Samples::samples_of, crate::specs::Samples::word_in, laws::specs::Packed::packed))]
     pub fn new() -> Samples
         ensures { result ≡ samples_of (replicate 64 0) }
     {
@@ -59,6 +60,7 @@ impl Samples {
     }
 
     // Past the last byte the answer is 0.
+    #[tactic(auto, using(crate::proofs::Kept::byte_is))]
     pub fn byte_at(self, at: usize) -> u8
         ensures { result ≡ get_or (bytes_of self) at 0 }
     {
@@ -70,11 +72,8 @@ impl Samples {
     {
         let words = self.words();
         let mut all = [0u8; DALI_RX_SAMPLE_BUF_LEN];
-        let mut at = 0;
-        while at < DALI_RX_SAMPLE_BUF_LEN {
-            let byte = byte_in(words, at);
-            all[at] = byte;
-            at += 1;
+        for at in 0..DALI_RX_SAMPLE_BUF_LEN {
+            all[at] = byte_in(words, at);
         }
         all
     }
@@ -89,13 +88,15 @@ impl Samples {
 }
 
 // If the byte is in this word, `bits` replace what the mask covers.
+#[tactic(auto, unfolding(crate::specs::Code::word_with, laws::specs::Pick::pick))]
 fn word_with(word: u64, hit: bool, mask: u64, bits: u64) -> u64
     ensures { result ≡ word_with word hit mask bits }
 {
     if hit {
-        return (word - (word & mask)) | bits;
+        (word - (word & mask)) | bits
+    } else {
+        word
     }
-    word
 }
 
 fn byte_in(words: [u64; WORDS], at: usize) -> u8

@@ -2,7 +2,7 @@
 #![tactic(auto)]
 
 ghost use Rattle.std.specs.Prelude.{◌≡◌, ◌≤◌};
-ghost use Rattle.rx_decode.specs.Reading.{byte_of, frame_of, sniffed_of, searched_in, found_in, byte_in, low_run_of, held_of};
+ghost use Rattle.rx_decode.specs.Reading.{frame_of, sniffed_of, searched_in, found_in, byte_in, low_run_of, held_of};
 ghost use Rattle.rx_decode.specs.Kinds.{SaysFrame, SaysByte};
 ghost use Rattle.rx_decode.specs.Code.{after_tick, after_byte};
 ghost use Rattle.lengths.specs.Lengths.{backward_lengths};
@@ -36,7 +36,7 @@ fn try_decode(ev: RxCompletedEvent, preferred: BitLengths) -> Option<PhaseDecode
     BestPhaseSearch::new(preferred).run(window).found
 }
 
-#[tactic(auto, using(crate::proofs::Telling::tells_byte, lengths::proofs::Masks::backward_mask), unfolding(crate::specs::Reading::byte_in, laws::specs::Pick::pick))]
+#[tactic(auto, using(crate::proofs::Telling::tells_byte, lengths::proofs::Masks::backward_mask), unfolding(crate::specs::Reading::byte_in, crate::specs::Reading::byte_of, laws::specs::Pick::pick))]
 pub fn decode_backward_byte(ev: RxCompletedEvent) -> Option<u8>
     ensures value { result ≡ byte_in (searched_in backward_lengths ev) }
     ensures says_byte { SaysByte result (searched_in backward_lengths ev) }
@@ -45,7 +45,7 @@ pub fn decode_backward_byte(ev: RxCompletedEvent) -> Option<u8>
         return None;
     };
     if result.bit_len == 8 {
-        Some(byte_of(result.data, 0))
+        Some(result.data.to_be_bytes()[0])
     } else {
         None
     }
@@ -92,12 +92,9 @@ pub fn longest_dominant_run_ticks(ev: RxCompletedEvent) -> u16
     ensures { result ≡ low_run_of ev }
 {
     let n = window::samples_kept(ev.sample_count);
-    let samples = ev.samples;
     let mut runs = LowRuns { best: 0, run: 0 };
-    let mut i: usize = 0;
-    while i < n {
-        runs = runs.after_byte(samples[i]);
-        i += 1;
+    for byte in &ev.samples[..n] {
+        runs = runs.after_byte(*byte);
     }
     runs.best
 }
@@ -117,19 +114,16 @@ struct LowRuns {
 
 impl LowRuns {
     // One more tick. Its level is 0 for low.
+    #[tactic(auto, unfolding(crate::specs::Code::after_tick, laws::specs::Pick::pick))]
     fn after_tick(self, level: u8) -> LowRuns
         requires { self.run ≤ 511 }
         ensures { result ≡ after_tick self level }
     {
-        let best = self.best;
-        if level == 0 {
-            let run = self.run + 1;
-            if best < run {
-                return LowRuns { best: run, run };
-            }
-            return LowRuns { best, run };
+        let run = if level == 0 { self.run + 1 } else { 0 };
+        LowRuns {
+            best: self.best.max(run),
+            run,
         }
-        LowRuns { best, run: 0 }
     }
 
     // Eight more ticks, the top bit first. A run goes on from one byte into the next.
@@ -138,30 +132,22 @@ impl LowRuns {
         ensures { result ≡ after_byte self byte }
     {
         let mut runs = self;
-        let mut at: u8 = 0;
-        while at < 8 {
+        for at in 0..8u8 {
             runs = runs.after_tick((byte >> (7 - at)) % 2);
-            at += 1;
         }
         runs
     }
 }
 
-// Byte number `index` of a decode's data. The first byte is on top.
-fn byte_of(data: u64, index: u8) -> u8
-    requires { index ≤ 7 }
-    ensures { result ≡ byte_of «data» index }
+#[tactic(auto, unfolding(crate::specs::Reading::frame_of, crate::specs::Reading::byte_of, laws::specs::Pick::pick))]
+fn sniffed_from_decoded(dlen: u8, data: u64) -> SniffedFrame
+    ensures { result ≡ frame_of dlen «data» }
 {
-    ((data >> (56 - index * 8)) % 256) as u8
-}
-
-fn sniffed_from_decoded(dlen: u8, out: u64) -> SniffedFrame
-    ensures { result ≡ frame_of dlen out }
-{
+    let out = data.to_be_bytes();
     match dlen {
-        8 => SniffedFrame::Backward8(byte_of(out, 0)),
-        16 => SniffedFrame::Forward16(byte_of(out, 0) as u16 * 256 + byte_of(out, 1) as u16),
-        24 => SniffedFrame::Forward24(byte_of(out, 0), byte_of(out, 1), byte_of(out, 2)),
+        8 => SniffedFrame::Backward8(out[0]),
+        16 => SniffedFrame::Forward16(out[0] as u16 * 256 + out[1] as u16),
+        24 => SniffedFrame::Forward24(out[0], out[1], out[2]),
         other => SniffedFrame::UnsupportedLength(other),
     }
 }

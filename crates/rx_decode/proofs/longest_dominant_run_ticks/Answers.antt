@@ -5,6 +5,7 @@ use mathlib.Core.List.{List}
 use Prim.Native.Nat.{ℕ, ◌+◌, ◌*◌, ◌/◌, ◌%◌, ◌≤◌, ◌<◌, min}
 use native.Mathlib.Omega.{arith}
 use lib.ListN.{get_or}
+use Rattle.std.proofs.lemmas.List.{length-take, get_or-take}
 use Rattle.laws.specs.Tabulate.{tabulate}
 use Rattle.laws.proofs.Tabulated.{tabulate_same}
 use Rattle.window.specs.Window.{level_of}
@@ -42,30 +43,20 @@ byte-≤ : (runs : LowRuns) (byte : ℕ) → (after_byte runs byte).run ≤ runs
 unfolding after_byte
 byte-≤ runs byte = ticks-≤ 8 (level_in byte) runs
 
-pub loop-i-init : goal.loop-i-init
-loop-i-init c = (omega (arith, c.samples_kept-n.ensures), omega arith, omega arith, ap (after_ticks (low_runs 0 0)) (from_start _ _))
+pub loop-byte-init : goal.loop-byte-init
+loop-byte-init c = record { grown = omega arith; same = ap (after_ticks (low_runs 0 0)) (from_start _ _) }
 
-pub bounds-samples-i : goal.bounds-samples-i
-bounds-samples-i c = omega arith
-
-pub after_byte-runs-requires : goal.after_byte-runs-requires
-after_byte-runs-requires c = omega arith
-
-pub overflow_add-i : goal.overflow_add-i
-overflow_add-i c = omega arith
-
-pub loop-i-smaller : goal.loop-i-smaller
-loop-i-smaller c = omega arith
-
-pub loop-i-preserved : goal.loop-i-preserved
-loop-i-preserved c =
+pub loop-byte-preserved : goal.loop-byte-preserved
+loop-byte-preserved c =
     let samples = c.args.ev.samples in
-    let grown = byte-≤ c.loop-i.runs (get_or samples c.loop-i.i 0) in (
-      omega arith,
-      omega arith,
-      rw c.after_byte-runs.ensures (omega (arith, grown)),
-      one_more samples _ _ _ _ (omega arith) c.loop-i.invariant.3 c.after_byte-runs.ensures,
-    )
+    let grown = byte-≤ c.loop-byte.runs (get_or samples c.loop-byte.byte-index 0) in
+    let within : c.loop-byte.byte-index < c.samples_kept-n.result = omega (arith, length-take {A = ℕ}) in
+    let next : c.after_byte-runs.result ≡ after_byte c.loop-byte.runs (get_or samples c.loop-byte.byte-index 0) =
+    c.after_byte-runs.ensures ∙ ap (after_byte c.loop-byte.runs) (get_or-take c.samples_kept-n.result samples c.loop-byte.byte-index 0 within) in
+    record {
+      grown = rw next (omega (arith, grown));
+      same = one_more samples _ _ _ _ within c.loop-byte.invariant.same next;
+    }
 
 pub returns : goal.returns
-returns c = done _ _ _ _ c.samples_kept-n.ensures c.loop-i-test.false c.loop-i.invariant.3
+returns c = done _ _ _ _ c.samples_kept-n.ensures (omega arith) c.loop-byte.invariant.same

@@ -1,7 +1,8 @@
--- `rx_decode::longest_dominant_run_ticks` meets its contract. The loop's invariant: the runs with the ticks of the bytes that are left are
+-- `rx_decode::longest_dominant_run_ticks` meets its contract. The loop's invariant: the runs with the ticks of the bytes that
+-- are left are those with all ticks. Assumes nothing.
 use mathlib.Core.Path.{◌≡◌}
 use mathlib.Core.List.{List}
-use Prim.Native.Nat.{ℕ, ◌-◌, ◌*◌, ◌≤◌}
+use Prim.Native.Nat.{ℕ, ◌*◌, ◌≤◌}
 use Rattle.laws.specs.Tabulate.{tabulate}
 use Rattle.window.specs.Window.{level_of}
 use Rattle.rx_decode.specs.declared.LowRuns.{LowRuns}
@@ -17,8 +18,8 @@ all samples n = after_ticks (low_runs 0 0) (tabulate (n * 8) (level_of samples))
 abbrev pub left : List ℕ → ℕ → ℕ → LowRuns → LowRuns
 left samples n i runs = after_ticks runs (ticks_from (level_of samples) (i * 8) (n * 8))
 
-abbrev pub invariant-loop-i : goal.invariant-loop-i
-invariant-loop-i l = (l.n ≤ 64) × (l.i ≤ l.n) × (l.runs.run ≤ l.i * 8) × (left l.samples l.n l.i l.runs ≡ all l.samples l.n)
-
-abbrev pub decreases-loop-i : goal.decreases-loop-i
-decreases-loop-i l = l.n - l.i
+abbrev pub invariant-loop-byte : goal.invariant-loop-byte
+invariant-loop-byte l = record {
+  grown : l.runs.run ≤ l.byte-index * 8;
+  same : left l.fn.ev.samples l.n l.byte-index l.runs ≡ all l.fn.ev.samples l.n;
+}

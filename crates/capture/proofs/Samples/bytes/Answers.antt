@@ -21,19 +21,10 @@ done s words all at is within past inv = let e : at ≡ 64 = omega arith in rw (
 
 pub loop-at-init : goal.loop-at-init
 unfolding tabulate
-loop-at-init c = (omega arith, refl)
-
-pub bounds-all-at : goal.bounds-all-at
-bounds-all-at c = omega arith
-
-pub overflow_add-at : goal.overflow_add-at
-overflow_add-at c = omega arith
-
-pub loop-at-smaller : goal.loop-at-smaller
-loop-at-smaller c = omega arith
+loop-at-init c = refl
 
 pub loop-at-preserved : goal.loop-at-preserved
-loop-at-preserved c = (omega arith, turn _ _ _ _ (omega arith) c.loop-at.invariant.1 c.byte_in-byte.ensures)
+loop-at-preserved c = turn _ _ _ _ (omega arith) c.loop-at.invariant c.byte_in.ensures
 
 pub returns : goal.returns
-returns c = done _ _ _ _ c.words-words.ensures c.loop-at.invariant.0 c.loop-at-test.false c.loop-at.invariant.1
+returns c = done _ _ _ _ c.words-words.ensures (omega arith) c.loop-at-test.false c.loop-at.invariant

@@ -1,7 +1,7 @@
 -- `Samples::bytes` meets its contract. The loop's invariant: the first bytes are handed out, and the others are zero. Assumes nothing.
 use mathlib.Core.Path.{◌≡◌}
 use mathlib.Core.List.{List, ◌++◌}
-use Prim.Native.Nat.{ℕ, ◌-◌, ◌≤◌}
+use Prim.Native.Nat.{ℕ}
 use lib.ListN.{drop, replicate}
 use Rattle.laws.specs.Tabulate.{tabulate}
 use Rattle.capture.specs.Samples.{byte_in}
@@ -11,7 +11,4 @@ abbrev pub handed : List ℕ → ℕ → List ℕ
 handed words at = tabulate at (byte_in words) ++ drop at (replicate 64 0)
 
 abbrev pub invariant-loop-at : goal.invariant-loop-at
-invariant-loop-at l = (l.at ≤ 64) × (l.all ≡ handed l.words l.at)
-
-abbrev pub decreases-loop-at : goal.decreases-loop-at
-decreases-loop-at l = 64 - l.at
+invariant-loop-at l = l.all ≡ handed l.words l.at

@@ -22,27 +22,15 @@ one_more byte at runs next all h inv e =
 
 pub loop-at-init : goal.loop-at-init
 unfolding after_byte
-loop-at-init c = (omega arith, omega arith, ap (after_ticks _) (from_start (level_in c.args.byte) 8))
-
-pub overflow_sub-at : goal.overflow_sub-at
-overflow_sub-at c = omega arith
-
-pub overflow_shr-byte : goal.overflow_shr-byte
-overflow_shr-byte c = omega arith
-
-pub after_tick-runs-requires : goal.after_tick-runs-requires
-after_tick-runs-requires c = omega arith
-
-pub overflow_add-at : goal.overflow_add-at
-overflow_add-at c = omega arith
-
-pub loop-at-smaller : goal.loop-at-smaller
-loop-at-smaller c = omega arith
+loop-at-init c = record { grown = omega arith; left = ap (after_ticks _) (from_start (level_in c.args.byte) 8) }
 
 pub loop-at-preserved : goal.loop-at-preserved
 loop-at-preserved c =
     let grown = tick-≤ c.loop-at.runs (level_in c.args.byte c.loop-at.at) in
-    (omega arith, rw c.after_tick-runs.ensures (omega (arith, grown)), one_more _ _ _ _ _ (omega arith) c.loop-at.invariant.2 c.after_tick-runs.ensures)
+    record {
+      grown = rw c.after_tick-runs.ensures (omega (arith, grown));
+      left = one_more _ _ _ _ _ (omega arith) c.loop-at.invariant.left c.after_tick-runs.ensures;
+    }
 
 pub returns : goal.returns
-returns c = sym (at_end (level_in c.args.byte) c.loop-at.at 8 c.loop-at-test.false c.loop-at.runs) ∙ c.loop-at.invariant.2
+returns c = sym (at_end (level_in c.args.byte) c.loop-at.at 8 c.loop-at-test.false c.loop-at.runs) ∙ c.loop-at.invariant.left
