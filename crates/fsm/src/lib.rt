@@ -5,7 +5,6 @@ ghost use Rattle.std.specs.Prelude.{◌≡◌, true, not, ◌+◌, ◌-◌, ◌*
 ghost use Rattle.laws.specs.Bit.{bit};
 ghost use Rattle.capture.specs.Samples.{with_byte};
 ghost use Rattle.machine.specs.States.{is_idle, hears};
-ghost use Rattle.machine.specs.Fields.{with_rx, with_rx_state};
 ghost use Rattle.fsm.specs.Constants.{public_constants};
 ghost use Rattle.fsm.specs.Station.{last_event, with_core, new_core, new_station};
 ghost use Rattle.fsm.specs.Rx.{shifted, high_run, filled_up, shifted_in, sampled, finished, notified, went_on, rx_tick};
@@ -24,7 +23,7 @@ pub use machine::{
     RX_START_DEBOUNCE_TICKS, RxState, TX_ARM_LEAD_TICKS, TX_HALF_BIT_TICKS,
 };
 
-const MAX_RX_IDX: usize = DALI_RX_SAMPLE_BUF_LEN - 1;
+const MAX_RX_IDX: u16 = DALI_RX_SAMPLE_BUF_LEN as u16 - 1;
 
 // Nobody calls this: its promise says what each public constant is.
 fn constants() -> PublicConstants
@@ -72,21 +71,14 @@ fn start_error_number(error: StartError) -> u8
 pub fn settle_ticks_on_wire(pre_idle_ticks: u16, lead: u8) -> u16
     ensures { result ≡ min (pre_idle_ticks + lead) 65535 }
 {
-    let sum = pre_idle_ticks as u32 + lead as u32;
-    if sum < 65_535 {
-        return sum as u16;
-    }
-    65_535
+    pre_idle_ticks.saturating_add(u16::from(lead))
 }
 
 // IEC 62386-101, 9.1.4
 pub fn restart_gate_for(release_to_edge_ticks: u8) -> u8
     ensures { result ≡ release_to_edge_ticks - 4 }
 {
-    if TX_ARM_LEAD_TICKS < release_to_edge_ticks {
-        return release_to_edge_ticks - (TX_ARM_LEAD_TICKS + 1);
-    }
-    0
+    release_to_edge_ticks.saturating_sub(TX_ARM_LEAD_TICKS + 1)
 }
 
 // Three fields are public for `in_place`, which changes a station that it is lent. All promises hold whoever wrote them. The other two make the last
@@ -114,36 +106,14 @@ pub struct Answered<T> {
     pub answer: T,
 }
 
-// All bytes past the 63rd go to slot 63.
-fn slot(rx_pos: u16) -> usize
-    ensures { result ≡ min rx_pos 63 }
-{
-    if (MAX_RX_IDX as u16) < rx_pos {
-        return MAX_RX_IDX;
-    }
-    rx_pos as usize
-}
-
-fn next_pos(rx_pos: u16) -> u16
-    ensures { result ≡ min (rx_pos + 1) 63 }
-{
-    if rx_pos < MAX_RX_IDX as u16 {
-        return rx_pos + 1;
-    }
-    MAX_RX_IDX as u16
-}
-
 // A new sample goes to the low end of its byte.
 fn shifted(rx_byte: u8, bus_is_high: bool) -> u8
     ensures { result ≡ rx_byte % 128 * 2 + bit bus_is_high }
 {
-    let twice = rx_byte % 128 * 2;
-    if bus_is_high {
-        return twice + 1;
-    }
-    twice
+    rx_byte % 128 * 2 + u8::from(bus_is_high)
 }
 
+#[tactic(auto, unfolding(crate::specs::Rx::high_run, laws::specs::Pick::pick))]
 fn high_run(rx: Rx, bus_is_high: bool) -> u8
     ensures { result ≡ high_run rx bus_is_high }
 {
@@ -157,33 +127,27 @@ fn high_run(rx: Rx, bus_is_high: bool) -> u8
 fn with_eighth(rx: Rx, bus_is_high: bool) -> Rx
     ensures { result ≡ filled_up rx bus_is_high }
 {
-    let byte = shifted(rx.rx_byte, bus_is_high);
-    let idle = high_run(rx, bus_is_high);
-    let pos = next_pos(rx.rx_pos);
     Rx {
-        rx_pos: pos,
-        rx_byte: byte,
+        rx_pos: machine::saturating_inc16(rx.rx_pos).min(MAX_RX_IDX),
+        rx_byte: shifted(rx.rx_byte, bus_is_high),
         rx_bit_cnt: 0,
-        rx_idle: idle,
-        rx_pre_idle: rx.rx_pre_idle,
+        rx_idle: high_run(rx, bus_is_high),
+        ..rx
     }
 }
 
 fn with_sample(rx: Rx, bus_is_high: bool) -> Rx
     ensures { result ≡ shifted_in rx bus_is_high }
 {
-    let byte = shifted(rx.rx_byte, bus_is_high);
-    let idle = high_run(rx, bus_is_high);
-    let more = machine::wrapping_inc8(rx.rx_bit_cnt);
     Rx {
-        rx_pos: rx.rx_pos,
-        rx_byte: byte,
-        rx_bit_cnt: more,
-        rx_idle: idle,
-        rx_pre_idle: rx.rx_pre_idle,
+        rx_byte: shifted(rx.rx_byte, bus_is_high),
+        rx_bit_cnt: rx.rx_bit_cnt.wrapping_add(1),
+        rx_idle: high_run(rx, bus_is_high),
+        ..rx
     }
 }
 
+#[tactic(auto, unfolding(crate::specs::Rx::sampled, laws::specs::Pick::pick))]
 pub fn sample(rx: Rx, bus_is_high: bool) -> Rx
     ensures { result ≡ sampled rx bus_is_high }
 {
@@ -193,11 +157,14 @@ pub fn sample(rx: Rx, bus_is_high: bool) -> Rx
     with_sample(rx, bus_is_high)
 }
 
-// The eighth sample writes its byte to the capture.
+// The eighth sample writes its byte to the capture. All bytes past the 63rd go to slot 63.
 pub fn fill(rx_data: Samples, rx: Rx, bus_is_high: bool) -> Samples
     ensures { result ≡ with_byte rx_data (min rx.rx_pos 63) (shifted rx bus_is_high) }
 {
-    rx_data.with_byte(slot(rx.rx_pos), shifted(rx.rx_byte, bus_is_high))
+    rx_data.with_byte(
+        rx.rx_pos.min(MAX_RX_IDX) as usize,
+        shifted(rx.rx_byte, bus_is_high),
+    )
 }
 
 // A capture ends with one byte for the idle line.
@@ -207,142 +174,96 @@ pub fn with_end(rx_data: Samples, rx: Rx) -> Samples
     rx_data.with_byte(rx.rx_pos as usize, 0xFF)
 }
 
-fn with_rx(mut core: Core, rx: Rx) -> Core
-    ensures { result ≡ with_rx core rx }
-{
-    core.rx = rx;
-    core
-}
-
-// Only the mark of the capture changes.
-fn in_rx_state(mut core: Core, rx_state: RxState) -> Core
-    ensures { result ≡ with_rx_state core rx_state }
-{
-    let told = Told {
-        tx_pre_idle: core.told.tx_pre_idle,
-        rx_state,
-        tx_collision: core.told.tx_collision,
-        tx_idle_after_break: core.told.tx_idle_after_break,
-        tx_yielded: core.told.tx_yielded,
-    };
-    core.told = told;
-    core
-}
-
 // The byte for the idle line counts too.
+#[tactic(auto, unfolding(crate::specs::Rx::finished))]
 pub fn end_rx(mut core: Core, rx: Rx) -> Core
     ensures { result ≡ finished core rx }
 {
-    let count = machine::saturating_inc16(rx.rx_pos);
-    let whole = Rx {
-        rx_pos: count,
-        rx_byte: rx.rx_byte,
-        rx_bit_cnt: rx.rx_bit_cnt,
-        rx_idle: rx.rx_idle,
-        rx_pre_idle: rx.rx_pre_idle,
+    core.rx = Rx {
+        rx_pos: machine::saturating_inc16(rx.rx_pos),
+        ..rx
     };
-    core.rx = whole;
-    let marked = in_rx_state(core, RxState::Completed);
-    marked.set_bus_idle()
+    core.told = Told {
+        rx_state: RxState::Completed,
+        ..core.told
+    };
+    core.set_bus_idle()
 }
 
+#[tactic(auto, unfolding(crate::specs::Starting::length_fits))]
 fn length_fits(length: u8) -> bool
     ensures { result ≡ length_fits length }
 {
     length != 0 && length <= HalfBitBuffer::MAX_DATA_HALF_BITS
 }
 
-// A new station is Idle, releases the line, and has a debounce of 0.
-fn new_bus() -> Bus
-    ensures { result ≡ new_core.bus }
-{
-    Bus {
-        idlecnt: 0,
-        bus_state: BusState::Idle,
-        rx_debounce: 0,
-        driven_high: true,
-        tx_busy: false,
-    }
-}
-
+#[tactic(auto, unfolding(crate::specs::Station::new_core))]
 fn new_core() -> Core
     ensures { result ≡ new_core }
 {
-    let runs = Runs {
-        high_run_ticks: 0,
-        low_run_ticks: 0,
-    };
-    let bus = new_bus();
-    let rx = Rx {
-        rx_pos: 0,
-        rx_byte: 0,
-        rx_bit_cnt: 0,
-        rx_idle: 0,
-        rx_pre_idle: 0,
-    };
-    let told = Told {
-        tx_pre_idle: 0,
-        rx_state: RxState::Empty,
-        tx_collision: 0,
-        tx_idle_after_break: false,
-        tx_yielded: false,
-    };
-    let tx = Tx {
-        tx_hb_cnt: 0,
-        tx_sp_cnt: 0,
-        tx_high: 0,
-        tx_armed: 0,
-        tx_answer: false,
-    };
     Core {
-        tx,
+        told: Told {
+            tx_pre_idle: 0,
+            rx_state: RxState::Empty,
+            tx_collision: 0,
+            tx_idle_after_break: false,
+            tx_yielded: false,
+        },
         collision_policy: CollisionPolicy::Auto,
-        runs,
-        bus,
-        rx,
-        told,
+        bus: Bus {
+            idlecnt: 0,
+            bus_state: BusState::Idle,
+            rx_debounce: 0,
+            driven_high: true,
+            tx_busy: false,
+        },
+        tx: Tx {
+            tx_high: 0,
+            tx_armed: 0,
+            tx_hb_cnt: 0,
+            tx_sp_cnt: 0,
+            tx_answer: false,
+        },
+        rx: Rx {
+            rx_pos: 0,
+            rx_byte: 0,
+            rx_bit_cnt: 0,
+            rx_idle: 0,
+            rx_pre_idle: 0,
+        },
+        runs: Runs {
+            high_run_ticks: 0,
+            low_run_ticks: 0,
+        },
     }
 }
 
 impl DaliBitbangPhy {
     pub const RX_BUF_SIZE: usize = DALI_RX_SAMPLE_BUF_LEN;
 
+    #[tactic(auto, unfolding(crate::specs::Station::new_station))]
     pub fn new() -> DaliBitbangPhy
         ensures { result ≡ new_station }
     {
         let core = new_core();
-        let rx = core.rx;
-        let tx_hb = TxHb {
-            tx_hb_bits: 0,
-            tx_hb_len: 0,
-        };
         let samples = Samples::new();
         DaliBitbangPhy {
             core,
-            tx_hb,
+            tx_hb: TxHb {
+                tx_hb_bits: 0,
+                tx_hb_len: 0,
+            },
             rx_data: samples,
             event_data: samples,
-            event_rx: rx,
+            event_rx: core.rx,
         }
     }
 
+    #[tactic(auto, unfolding(crate::specs::Calls::with_policy))]
     pub fn set_collision_policy(mut self, p: CollisionPolicy) -> DaliBitbangPhy
         ensures { result ≡ with_policy self p }
     {
-        let tx = self.core.tx;
-        let runs = self.core.runs;
-        let bus = self.core.bus;
-        let rx = self.core.rx;
-        let told = self.core.told;
-        let core = Core {
-            tx,
-            collision_policy: p,
-            runs,
-            bus,
-            rx,
-            told,
-        };
-        self.core = core;
+        self.core.collision_policy = p;
         self
     }
 
@@ -354,17 +275,18 @@ impl DaliBitbangPhy {
     }
 
     // The capture that has ended becomes the last event.
+    #[tactic(auto, unfolding(crate::specs::Rx::notified))]
     pub fn finish_rx_and_notify(mut self, core: Core, rx_data: Samples) -> DaliBitbangPhy
         ensures { result ≡ notified self core rx_data }
     {
-        let event_rx = core.rx;
         self.core = core;
         self.rx_data = rx_data;
         self.event_data = rx_data;
-        self.event_rx = event_rx;
+        self.event_rx = core.rx;
         self
     }
 
+    #[tactic(auto, unfolding(crate::specs::Rx::rx_tick, crate::specs::Rx::sampled, crate::specs::Rx::filled, laws::specs::Pick::pick))]
     fn tick_rx(self, core: Core, bus_is_high: bool) -> DaliBitbangPhy
         ensures { result ≡ rx_tick self core bus_is_high }
     {
@@ -378,12 +300,13 @@ impl DaliBitbangPhy {
     }
 
     // The capture goes on, or the sixteenth high running ends it.
-    fn go_on(mut self, core: Core, rx: Rx, rx_data: Samples) -> DaliBitbangPhy
+    #[tactic(auto, unfolding(crate::specs::Rx::went_on, laws::specs::Pick::pick))]
+    fn go_on(mut self, mut core: Core, rx: Rx, rx_data: Samples) -> DaliBitbangPhy
         ensures { result ≡ went_on self core rx rx_data }
     {
         if rx.rx_idle < RX_IDLE_LINE_HIGH_TICKS {
-            let next = with_rx(core, rx);
-            self.core = next;
+            core.rx = rx;
+            self.core = core;
             self.rx_data = rx_data;
             return self;
         }
@@ -401,12 +324,11 @@ impl DaliBitbangPhy {
     }
 
     // `core` is the station's core after it has counted its runs.
+    #[tactic(auto, unfolding(crate::specs::Ticking::tick_in))]
     fn act(self, core: Core, bus_is_high: bool) -> DaliBitbangPhy
         ensures { result ≡ tick_in core.bus.bus_state self core bus_is_high }
     {
-        let bus = core.bus;
-        let bus_state = bus.bus_state;
-        match bus_state {
+        match core.bus.bus_state {
             BusState::Idle => self.with_core(core.tick_idle(bus_is_high)),
             BusState::Rx => self.tick_rx(core, bus_is_high),
             BusState::Tx => self.with_core(core.tick_tx(self.tx_hb, bus_is_high)),
@@ -465,8 +387,7 @@ impl DaliBitbangPhy {
     pub fn bus_state(self) -> BusState
         ensures { result ≡ self.core.bus.bus_state }
     {
-        let bus = self.core.bus;
-        bus.bus_state
+        self.core.bus.bus_state
     }
 
     pub fn line_debouncing(self) -> bool
@@ -522,8 +443,7 @@ impl DaliBitbangPhy {
     pub fn rx_state(self) -> RxState
         ensures { result ≡ self.core.told.rx_state }
     {
-        let told = self.core.told;
-        told.rx_state
+        self.core.told.rx_state
     }
 
     pub fn idle_tick_count(self) -> u16
@@ -566,9 +486,8 @@ impl DaliBitbangPhy {
     pub fn last_rx_event(self) -> RxCompletedEvent
         ensures { result ≡ last_event self }
     {
-        let samples = self.event_data;
         RxCompletedEvent::of_capture(
-            samples.bytes(),
+            self.event_data.bytes(),
             self.event_rx.rx_pos,
             self.event_rx.rx_pre_idle,
         )
@@ -579,7 +498,10 @@ impl DaliBitbangPhy {
         ensures { result ≡ acknowledged self }
     {
         if self.rx_state() == RxState::Completed {
-            self.core.told.rx_state = RxState::Empty;
+            self.core.told = Told {
+                rx_state: RxState::Empty,
+                ..self.core.told
+            };
         }
         self
     }

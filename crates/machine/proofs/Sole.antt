@@ -3,7 +3,6 @@
 use Rattle.laws.proofs.Only.{Only, named}
 use Rattle.machine.proofs.saturating_inc16.Reads as saturating_inc16
 use Rattle.machine.proofs.saturating_inc8.Reads as saturating_inc8
-use Rattle.machine.proofs.wrapping_inc8.Reads as wrapping_inc8
 use Rattle.machine.proofs.TxHb.of.Reads as of
 use Rattle.machine.proofs.Core.count_runs.Reads as count_runs
 use Rattle.machine.proofs.Core.set_bus_idle.Reads as set_bus_idle
@@ -20,9 +19,6 @@ saturating_inc16_sole κs a x = named _
 
 pub saturating_inc8_sole : (κs : _) (a : _) (x : _) → Only (λ r. saturating_inc8.Post κs a r x)
 saturating_inc8_sole κs a x = named _
-
-pub wrapping_inc8_sole : (κs : _) (a : _) (x : _) → Only (λ r. wrapping_inc8.Post κs a r x)
-wrapping_inc8_sole κs a x = named _
 
 pub of_sole : (κs : _) (a : _) (x : _) → Only (λ r. of.Post κs a r x)
 of_sole κs a x = named _

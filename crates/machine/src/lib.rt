@@ -156,9 +156,8 @@ pub struct TxHb {
     pub tx_hb_len: u64,
 }
 
-// A station without its captures and half-bits. A function changes a group by one literal that names all its fields: the compiler then keeps the
-// fields apart. If it hands on an enum, it binds the group first, since the prover covers no enum that is read at depth. Timing decided the order of
-// the groups and of Tx's fields. No group has a gap between its fields.
+// A station without its captures and half-bits. Timing decided the order of the groups and of Tx's fields. No group has a gap between its fields. A
+// tick makes a group anew and does not assign to its fields: the compiler then keeps the fields apart.
 #[derive(Clone, Copy)]
 pub struct Core {
     pub told: Told,
@@ -169,74 +168,29 @@ pub struct Core {
     pub runs: Runs,
 }
 
-// What a counter adds: 1, or 0 at its limit. A sum takes fewer steps than a choice between two values.
-fn room16(x: u16) -> u16
-    ensures { result ≡ min (x + 1) 65535 - x }
-{
-    if x < 65_535 {
-        return 1;
-    }
-    0
-}
+// Counters stop at their limit. A sum takes fewer steps than the choice of std's saturating_add, and a loop over ticks shows it.
 
 pub fn saturating_inc16(x: u16) -> u16
     ensures { result ≡ min (x + 1) 65535 }
 {
-    x + room16(x)
-}
-
-fn room8(x: u8) -> u8
-    ensures { result ≡ min (x + 1) 255 - x }
-{
-    if x < 255 {
-        return 1;
-    }
-    0
+    x + u16::from(x < u16::MAX)
 }
 
 pub fn saturating_inc8(x: u8) -> u8
     ensures { result ≡ min (x + 1) 255 }
 {
-    x + room8(x)
-}
-
-fn saturating_dec8(x: u8) -> u8
-    ensures { result ≡ x - 1 }
-{
-    if x == 0 {
-        return 0;
-    }
-    x - 1
-}
-
-pub fn wrapping_inc8(x: u8) -> u8
-    ensures { result ≡ (x + 1) % 256 }
-{
-    if x < 255 {
-        return x + 1;
-    }
-    0
-}
-
-// A capture keeps the silence before it in one byte.
-fn pre_idle(idlecnt: u16) -> u8
-    ensures { result ≡ min idlecnt 255 }
-{
-    if 0xFF < idlecnt {
-        return 0xFF;
-    }
-    (idlecnt % 256) as u8
+    x + u8::from(x < u8::MAX)
 }
 
 impl TxHb {
     // A start keeps the half-bits of a buffer in this form.
+    #[tactic(auto, unfolding(crate::specs::Sending::tx_hb_of))]
     pub fn of(halfbits: HalfBitBuffer) -> TxHb
         ensures { result ≡ tx_hb_of halfbits }
     {
-        let data = halfbits.data;
         TxHb {
-            tx_hb_bits: half_bits_in(data),
-            tx_hb_len: halfbits.length as u64,
+            tx_hb_bits: half_bits_in(halfbits.data),
+            tx_hb_len: u64::from(halfbits.length),
         }
     }
 }
@@ -246,14 +200,13 @@ fn half_bits_in(data: [u8; HalfBitBuffer::DATA_LEN]) -> u64
     ensures { result ≡ half_bits_in «data» }
 {
     let mut bits: u64 = 0;
-    let mut at = 0;
-    while at < HalfBitBuffer::DATA_LEN {
-        bits = bits * 256 + data[at] as u64;
-        at += 1;
+    for byte in data {
+        bits = bits * 256 + u64::from(byte);
     }
     bits * 256
 }
 
+#[tactic(auto, unfolding(crate::specs::Sending::watches_of))]
 fn watches(collision_policy: CollisionPolicy, tx_hb_len: u64) -> bool
     ensures { result ≡ watches_of collision_policy tx_hb_len }
 {
@@ -265,6 +218,7 @@ fn watches(collision_policy: CollisionPolicy, tx_hb_len: u64) -> bool
 }
 
 // A half-bit of 0 releases the line.
+#[tactic(auto, unfolding(crate::specs::Sending::releases_at))]
 fn releases(tx_hb: TxHb, tx_hb_cnt: u8) -> bool
     requires { tx_hb_cnt < 64 }
     ensures { result ≡ releases_at tx_hb tx_hb_cnt }
@@ -275,6 +229,7 @@ fn releases(tx_hb: TxHb, tx_hb_cnt: u8) -> bool
 impl Tx {
     // A clash: the line is low although this station has released it. The station watches only the third and fourth ticks of a half-bit, when
     // `tx_sp_cnt` is 2 and 1.
+    #[tactic(auto, unfolding(crate::specs::Sending::clash_of))]
     fn collision_detected(self, policy: CollisionPolicy, tx_hb_len: u64, bus_is_high: bool) -> bool
         ensures { result ≡ clash_of self policy tx_hb_len bus_is_high }
     {
@@ -287,71 +242,59 @@ impl Tx {
 
 impl Core {
     // Each tick does this before it acts.
+    #[tactic(auto, unfolding(crate::specs::Runs::runs_counted, laws::specs::Pick::pick))]
     pub fn count_runs(mut self, bus_is_high: bool) -> Core
         ensures { result ≡ runs_counted self bus_is_high }
     {
         if bus_is_high {
-            let high = saturating_inc16(self.runs.high_run_ticks);
-            let runs = Runs {
-                high_run_ticks: high,
+            self.runs = Runs {
+                high_run_ticks: saturating_inc16(self.runs.high_run_ticks),
                 low_run_ticks: 0,
             };
-            self.runs = runs;
             return self;
         }
-        let low = saturating_inc16(self.runs.low_run_ticks);
-        let runs = Runs {
+        self.runs = Runs {
             high_run_ticks: 0,
-            low_run_ticks: low,
+            low_run_ticks: saturating_inc16(self.runs.low_run_ticks),
         };
-        self.runs = runs;
         self
     }
 
     // IEC 62386-101, 7.2.2: silence counts from the line's last low tick on, not from becoming Idle.
+    #[tactic(auto, unfolding(crate::specs::BecomingIdle::idled))]
     pub fn set_bus_idle(mut self) -> Core
         ensures { result ≡ idled self }
     {
-        let bus = Bus {
+        self.bus = Bus {
             idlecnt: self.runs.high_run_ticks,
             bus_state: BusState::Idle,
             rx_debounce: 0,
             driven_high: true,
             tx_busy: false,
         };
-        self.bus = bus;
         self
     }
 
     // The low ticks that the debounce waited for are the first samples of the capture.
+    #[tactic(auto, unfolding(crate::specs::Idle::entered))]
     fn start_rx(mut self) -> Core
         ensures { result ≡ entered self }
     {
-        let pre = pre_idle(self.bus.idlecnt);
-        let rx = Rx {
+        self.rx = Rx {
             rx_pos: 0,
             rx_byte: 0,
             rx_bit_cnt: RX_START_DEBOUNCE_TICKS,
             rx_idle: 0,
-            rx_pre_idle: pre,
+            rx_pre_idle: self.bus.idlecnt.min(0xFF) as u8,
         };
-        let bus = Bus {
-            idlecnt: self.bus.idlecnt,
+        self.bus = Bus {
             bus_state: BusState::Rx,
-            rx_debounce: self.bus.rx_debounce,
-            driven_high: self.bus.driven_high,
-            tx_busy: self.bus.tx_busy,
+            ..self.bus
         };
-        let told = Told {
-            tx_pre_idle: self.told.tx_pre_idle,
+        self.told = Told {
             rx_state: RxState::Receiving,
-            tx_collision: self.told.tx_collision,
-            tx_idle_after_break: self.told.tx_idle_after_break,
-            tx_yielded: self.told.tx_yielded,
+            ..self.told
         };
-        self.rx = rx;
-        self.bus = bus;
-        self.told = told;
         self
     }
 
@@ -370,41 +313,31 @@ impl Core {
     }
 
     // A high tick in Idle.
+    #[tactic(auto, unfolding(crate::specs::Idle::silent))]
     pub fn count_idle(mut self) -> Core
         ensures { result ≡ silent self }
     {
-        let old = self.bus;
-        let bus_state = old.bus_state;
-        let idlecnt = saturating_inc16(old.idlecnt);
-        let bus = Bus {
-            idlecnt,
-            bus_state,
+        self.bus = Bus {
+            idlecnt: saturating_inc16(self.bus.idlecnt),
             rx_debounce: 0,
-            driven_high: old.driven_high,
-            tx_busy: old.tx_busy,
+            ..self.bus
         };
-        self.bus = bus;
         self
     }
 
     // A low tick in Idle counts in the debounce.
+    #[tactic(auto, unfolding(crate::specs::Idle::fell))]
     fn debounce(mut self) -> Core
         ensures { result ≡ fell self }
     {
-        let old = self.bus;
-        let bus_state = old.bus_state;
-        let debounce = saturating_inc8(old.rx_debounce);
-        let bus = Bus {
-            idlecnt: old.idlecnt,
-            bus_state,
-            rx_debounce: debounce,
-            driven_high: old.driven_high,
-            tx_busy: old.tx_busy,
+        self.bus = Bus {
+            rx_debounce: saturating_inc8(self.bus.rx_debounce),
+            ..self.bus
         };
-        self.bus = bus;
         self
     }
 
+    #[tactic(auto, unfolding(crate::specs::Sending::after_step, laws::specs::Pick::pick))]
     fn tick_tx_armed(self, bus_is_high: bool) -> Core
         ensures { result ≡ after_step (armed_step self.tx bus_is_high) self }
     {
@@ -415,81 +348,55 @@ impl Core {
     }
 
     // An armed tick that does not yield.
+    #[tactic(auto, unfolding(crate::specs::Sending::armed))]
     fn stay_armed(mut self) -> Core
         ensures { result ≡ armed self }
     {
-        let left = saturating_dec8(self.tx.tx_armed);
-        let tx = Tx {
-            tx_hb_cnt: self.tx.tx_hb_cnt,
-            tx_sp_cnt: self.tx.tx_sp_cnt,
-            tx_high: self.tx.tx_high,
-            tx_armed: left,
-            tx_answer: self.tx.tx_answer,
+        self.tx = Tx {
+            tx_armed: self.tx.tx_armed.saturating_sub(1),
+            ..self.tx
         };
-        self.tx = tx;
         self
     }
 
     // Another station was first. Its low tick is also Idle's first low tick.
+    #[tactic(auto, unfolding(crate::specs::Sending::yielded))]
     fn yield_tx(mut self) -> Core
         ensures { result ≡ yielded self }
     {
-        let was = self.told;
-        let rx_state = was.rx_state;
-        let told = Told {
-            tx_pre_idle: was.tx_pre_idle,
-            rx_state,
-            tx_collision: was.tx_collision,
-            tx_idle_after_break: was.tx_idle_after_break,
+        self.told = Told {
             tx_yielded: true,
+            ..self.told
         };
-        let tx = Tx {
-            tx_hb_cnt: self.tx.tx_hb_cnt,
-            tx_sp_cnt: self.tx.tx_sp_cnt,
-            tx_high: self.tx.tx_high,
+        self.tx = Tx {
             tx_armed: 0,
-            tx_answer: self.tx.tx_answer,
+            ..self.tx
         };
-        self.told = told;
-        self.tx = tx;
-        let idle = self.set_bus_idle();
-        idle.tick_idle(false)
+        self.set_bus_idle().tick_idle(false)
     }
 
+    #[tactic(auto, unfolding(crate::specs::Sending::clashed))]
     fn enter_collision_tx(mut self) -> Core
         ensures { result ≡ clashed self }
     {
-        let was = self.told;
-        let rx_state = was.rx_state;
-        let collision = saturating_inc8(was.tx_collision);
-        let told = Told {
-            tx_pre_idle: was.tx_pre_idle,
-            rx_state,
-            tx_collision: collision,
+        self.told = Told {
+            tx_collision: saturating_inc8(self.told.tx_collision),
             tx_idle_after_break: false,
-            tx_yielded: was.tx_yielded,
+            ..self.told
         };
-        let tx = Tx {
-            tx_hb_cnt: self.tx.tx_hb_cnt,
+        self.tx = Tx {
             tx_sp_cnt: 0,
-            tx_high: self.tx.tx_high,
-            tx_armed: self.tx.tx_armed,
-            tx_answer: self.tx.tx_answer,
+            ..self.tx
         };
-        let bus = Bus {
-            idlecnt: self.bus.idlecnt,
+        self.bus = Bus {
             bus_state: BusState::CollisionTx,
-            rx_debounce: self.bus.rx_debounce,
-            driven_high: self.bus.driven_high,
-            tx_busy: self.bus.tx_busy,
+            ..self.bus
         };
-        self.told = told;
-        self.tx = tx;
-        self.bus = bus;
         self
     }
 
     // Whether this tick of Tx only goes on with a half-bit, as most ticks do.
+    #[tactic(auto, unfolding(crate::specs::Sending::tx_step, crate::specs::Sending::is_hold, laws::specs::Pick::pick))]
     pub fn holds(self, tx_hb: TxHb, bus_is_high: bool) -> bool
         ensures { result ≡ is_hold (tx_step self.tx self.collision_policy tx_hb bus_is_high) }
     {
@@ -508,48 +415,37 @@ impl Core {
     }
 
     // The half-bit goes on for one tick.
+    #[tactic(auto, unfolding(crate::specs::Sending::held))]
     pub fn hold_half_bit(mut self) -> Core
         ensures { result ≡ held self }
     {
-        let left = saturating_dec8(self.tx.tx_sp_cnt);
-        let tx = Tx {
-            tx_hb_cnt: self.tx.tx_hb_cnt,
-            tx_sp_cnt: left,
-            tx_high: self.tx.tx_high,
-            tx_armed: self.tx.tx_armed,
-            tx_answer: self.tx.tx_answer,
+        self.tx = Tx {
+            tx_sp_cnt: self.tx.tx_sp_cnt.saturating_sub(1),
+            ..self.tx
         };
-        self.tx = tx;
         self
     }
 
     // The first tick of a half-bit.
+    #[tactic(auto, unfolding(crate::specs::Sending::driven))]
     fn drive_half_bit(mut self, high: bool) -> Core
         ensures { result ≡ driven self high }
     {
-        let on = self.bus;
-        let bus_state = on.bus_state;
-        let count = wrapping_inc8(self.tx.tx_hb_cnt);
-        let bus = Bus {
-            idlecnt: on.idlecnt,
-            bus_state,
-            rx_debounce: on.rx_debounce,
+        self.bus = Bus {
             driven_high: high,
-            tx_busy: on.tx_busy,
+            ..self.bus
         };
-        let tx = Tx {
-            tx_hb_cnt: count,
+        self.tx = Tx {
+            tx_hb_cnt: self.tx.tx_hb_cnt.wrapping_add(1),
             tx_sp_cnt: TX_HALF_BIT_TICKS as u8 - 1,
             tx_high: high as u8,
-            tx_armed: self.tx.tx_armed,
-            tx_answer: self.tx.tx_answer,
+            ..self.tx
         };
-        self.bus = bus;
-        self.tx = tx;
         self
     }
 
     // The first rule that fits decides.
+    #[tactic(auto, unfolding(crate::specs::Sending::tx_tick, crate::specs::Sending::tx_step, crate::specs::Sending::after_step, laws::specs::Pick::pick))]
     pub fn tick_tx(self, tx_hb: TxHb, bus_is_high: bool) -> Core
         ensures { result ≡ tx_tick self tx_hb bus_is_high }
     {
@@ -574,19 +470,14 @@ impl Core {
     }
 
     // IEC 62386-101, 9.1.4: a station that finds the line high after its break may go first.
+    #[tactic(auto, unfolding(crate::specs::Collision::broke, laws::specs::Pick::pick))]
     fn leave_collision_tx(mut self, bus_is_high: bool) -> Core
         ensures { result ≡ broke self bus_is_high }
     {
-        let was = self.told;
-        let rx_state = was.rx_state;
-        let told = Told {
-            tx_pre_idle: was.tx_pre_idle,
-            rx_state,
-            tx_collision: was.tx_collision,
+        self.told = Told {
             tx_idle_after_break: bus_is_high,
-            tx_yielded: was.tx_yielded,
+            ..self.told
         };
-        self.told = told;
         let idle = self.set_bus_idle();
         if bus_is_high {
             return idle;
@@ -594,62 +485,49 @@ impl Core {
         idle.tick_idle(false)
     }
 
+    #[tactic(auto, unfolding(crate::specs::Collision::collision_tick, laws::specs::Pick::pick))]
     pub fn tick_collision_tx(mut self, bus_is_high: bool) -> Core
         ensures { result ≡ collision_tick self bus_is_high }
     {
-        let ticks = wrapping_inc8(self.tx.tx_sp_cnt);
-        let tx = Tx {
-            tx_hb_cnt: self.tx.tx_hb_cnt,
+        let ticks = self.tx.tx_sp_cnt.wrapping_add(1);
+        self.tx = Tx {
             tx_sp_cnt: ticks,
-            tx_high: self.tx.tx_high,
-            tx_armed: self.tx.tx_armed,
-            tx_answer: self.tx.tx_answer,
+            ..self.tx
         };
-        self.tx = tx;
         if COLLISION_CHECK_TICK <= ticks {
             return self.leave_collision_tx(bus_is_high);
         }
-        let on = self.bus;
-        let bus_state = on.bus_state;
-        let bus = Bus {
-            idlecnt: on.idlecnt,
-            bus_state,
-            rx_debounce: on.rx_debounce,
+        self.bus = Bus {
             driven_high: COLLISION_BREAK_TICKS < ticks,
-            tx_busy: on.tx_busy,
+            ..self.bus
         };
-        self.bus = bus;
         self
     }
 
     // A start that is not refused.
+    #[tactic(auto, unfolding(crate::specs::Starting::loaded))]
     pub fn load_tx(mut self, answer: bool) -> Core
         ensures { result ≡ loaded self answer }
     {
-        let bus = Bus {
-            idlecnt: self.bus.idlecnt,
+        self.bus = Bus {
             bus_state: BusState::Tx,
-            rx_debounce: self.bus.rx_debounce,
-            driven_high: self.bus.driven_high,
             tx_busy: true,
+            ..self.bus
         };
-        let told = Told {
+        self.told = Told {
             tx_pre_idle: self.bus.idlecnt,
             rx_state: RxState::Empty,
             tx_collision: 0,
             tx_idle_after_break: false,
             tx_yielded: false,
         };
-        let tx = Tx {
+        self.tx = Tx {
             tx_hb_cnt: 0,
             tx_sp_cnt: 0,
-            tx_high: self.tx.tx_high,
             tx_armed: TX_ARM_LEAD_TICKS,
             tx_answer: answer,
+            ..self.tx
         };
-        self.bus = bus;
-        self.told = told;
-        self.tx = tx;
         self
     }
 }
