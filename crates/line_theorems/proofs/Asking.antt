@@ -1,5 +1,4 @@
 -- Calls that start nothing, and what they leave as it was. Assumes nothing.
-use Rattle.std.specs.Prelude.{⊤, Result, Option}
 use Prim.Native.Nat.{ℕ, suc, ◌-◌, ◌<◌}
 use native.Mathlib.Omega.{arith}
 use native.Mathlib.Decide.{ℕ_discrete}
@@ -10,7 +9,6 @@ use mathlib.Core.Path.{◌≡◌, refl, sym, ◌∙◌, ap, subst}
 use lib.Dec.{eqb}
 use lib.Seq.{get_or-set_same, get_or-set_other}
 use borrow.Author.Tests.{lt-ltb}
-use Rattle.laws.specs.Pick.{pick}
 use Rattle.laws.proofs.Picked.{on_true, cases}
 use Rattle.machine.specs.declared.Bus.{Bus}
 use Rattle.machine.specs.declared.Runs.{Runs}
@@ -22,8 +20,6 @@ use Rattle.fsm.specs.Ticking.{tick_of}
 use Rattle.machine.specs.States.{hears, is_tx}
 use Rattle.fsm.specs.Polling.{polled}
 use Rattle.fsm.specs.Calls.{with_policy, took_idle, has_event, acknowledged, took_rx}
-use Rattle.fsm.specs.declared.StartError.{StartError}
-use Rattle.event.specs.declared.RxCompletedEvent.{RxCompletedEvent}
 use Rattle.bench_line.specs.declared.BenchLine.{BenchLine}
 use Rattle.bench_line.specs.declared.LineAnswered.{LineAnswered}
 use Rattle.bench_line.specs.Line.{stations_on, is_on, station_at, with_station, line_ticked}

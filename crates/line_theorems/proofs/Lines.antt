@@ -1,5 +1,5 @@
 -- What every call keeps of a line, and what a tick does to one place of it. Assumes nothing.
-use Rattle.std.specs.Prelude.{Result, ⊤, Option}
+use Rattle.std.specs.Prelude.{Result, ⊤}
 use Prim.Native.Nat.{ℕ, zero, suc, ◌≤◌, ◌<◌}
 use native.Mathlib.Omega.{arith}
 use native.Mathlib.Decide.{ℕ_discrete}
@@ -25,8 +25,6 @@ use Rattle.fsm.specs.Starting.{length_fits, started_with, loaded_with, started, 
 use Rattle.machine.specs.States.{is_idle, hears}
 use Rattle.station_theorems.specs.Calls as station
 use Rattle.station_theorems.specs.Calls.{Call, after, Reached}
-use Rattle.fsm.specs.declared.TxPollResult.{TxPollResult}
-use Rattle.event.specs.declared.RxCompletedEvent.{RxCompletedEvent}
 use Rattle.bench_line.specs.declared.BenchLine.{BenchLine}
 use Rattle.bench_line.specs.declared.LineAnswered.{LineAnswered}
 use Rattle.bench_line.specs.Line.{stations_on, is_on, station_at, with_station, new_line_of, all_ticked, level_left, line_ticked}
