@@ -6,6 +6,7 @@ use Prim.Native.Nat.{ℕ, zero, suc, ◌-◌}
 use lib.Dec.{ltb, eqb}
 use lib.IntN.{ℤ, pos}
 use lib.ListN.{drop}
+use Rattle.std.proofs.lemmas.Option.{same_Some}
 use Rattle.laws.proofs.Picked.{cases}
 use Rattle.lengths.specs.declared.BitLengths.{BitLengths}
 use Rattle.window.specs.declared.SampleWindow.{SampleWindow}
@@ -17,7 +18,7 @@ use Rattle.search.specs.declared.Stepped.{Stepped}
 use Rattle.search.specs.Search.{is_preferred, kept_better, better_of, new_of, first_of, ended_of, scanned_of, scan_phases, scan_phase, step_of}
 use Rattle.search.specs.Answers.{ends_at_once, ends_with, best_of, phases_left, SaysFound, SaysStep}
 use Rattle.search.specs.Steps.{after_steps, DecodesAreRead}
-use Rattle.search.proofs.Telling.{same_decode, none_such, says}
+use Rattle.search.proofs.Telling.{says}
 
 -- a decode tells its own phase
 own_phase : (w : SampleWindow) (most : ℕ) (phase : ℤ) → (phase_of w most phase).phase_ticks ≡ phase
@@ -50,10 +51,10 @@ module _ (P : PhaseDecode → Type 0) where
   Scanned w = (phase : ℤ) → Memᴰ phase scan_phases → P (phase_of w 32 phase)
 
   just : (d : PhaseDecode) → P d → Kept (Some d)
-  just d p e h = subst P (same_decode d e h) p
+  just d p e h = subst P (same_Some d e h) p
 
   nothing : Kept None
-  nothing d e = none_such d e
+  nothing d e = absurd cc
 
   of_kept : (m : BitLengths) (best : Option PhaseDecode) (d : PhaseDecode) → Kept best → P d → Kept (kept_better best d m)
   unfolding kept_better

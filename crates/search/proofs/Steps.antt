@@ -30,6 +30,14 @@ scan_back (suc (suc zero)) = refl
 scan_back (suc (suc (suc zero))) = refl
 scan_back (suc (suc (suc (suc n)))) = refl
 
+pub scanned_last : (k : ℕ) → (k ≡ 0 → ⊥) → (k ≡ 1 → ⊥) → (k ≡ 2 → ⊥) → scan_phase k ≡ pos 2
+unfolding scan_phase
+scanned_last zero a b d = absurd (a refl)
+scanned_last (suc zero) a b d = absurd (b refl)
+scanned_last (suc (suc zero)) a b d = absurd (d refl)
+scanned_last (suc (suc (suc zero))) a b d = refl
+scanned_last (suc (suc (suc (suc n)))) a b d = refl
+
 -- ---- which step this is: the first, one of the scan, or one after the fifth
 first_step : (s : BestPhaseSearch) (w : SampleWindow) → s.step ≡ 0 → step_of s w ≡ first_of s (phase_of w 32 (pos 0))
 unfolding step_of
@@ -54,7 +62,7 @@ first_by m best w t = pick t (stepped (search_with m 1 best) (done (Some (phase_
 
 -- ---- what the step after n steps leaves and answers
 pub clash : {P : Type 0} (a : SearchAnswer) → Done a ≡ Searching → P
-clash a e = let z : ◌≡◌ {A = ℕ} 0 1 = cc in absurd (omega arith)
+clash a e = absurd cc
 
 pub same_answer : (a b : SearchAnswer) → Done a ≡ Done b → a ≡ b
 same_answer a b e = cc

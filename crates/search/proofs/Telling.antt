@@ -6,6 +6,7 @@ use native.Mathlib.Omega.{arith}
 use lib.IntN.{pos}
 use lib.ListN.{drop_of_length-le}
 use borrow.Author.Tests.{ltb-true, ltb-false, ne_eqb, le-leb}
+use Rattle.std.proofs.lemmas.Option.{same_Some}
 use Rattle.laws.specs.Pick.{pick}
 use Rattle.laws.proofs.Picked.{cases}
 use Rattle.lengths.specs.declared.BitLengths.{BitLengths}
@@ -22,19 +23,13 @@ use Rattle.search.specs.Answers.{ends_with, best_of, SaysFound, SaysAnswer, Says
 use Rattle.search.proofs.Steps.{first_by, ended_step}
 use Rattle.search.proofs.Runs.{whole_of, five_suffice, run_whole}
 
-pub same_decode : (d e : PhaseDecode) → Some d ≡ Some e → d ≡ e
-same_decode d e h = cc
-
-pub none_such : {P : Type 0} (d : PhaseDecode) → None ≡ Some d → P
-none_such d e = let z : ◌≡◌ {A = ℕ} 0 1 = cc in absurd (omega arith)
-
 -- ---- what is handed out of what the search ended with
 pub says_found : (ended : Option PhaseDecode) → SaysFound (accepted_of ended) ended
 unfolding SaysFound accepted_of
-says_found None = λ d e. none_such d e
+says_found None = λ d e. absurd cc
 says_found (Some d) =
     cases (λ r. SaysFound r (Some d)) _
-    (λ few. λ e h. rw (← same_decode d e h) (ltb-true _ _ few))
+    (λ few. λ e h. rw (← same_Some d e h) (ltb-true _ _ few))
     (λ enough. (refl, ltb-false _ _ enough))
 
 says_whole : (s : BestPhaseSearch) (w : SampleWindow) → SaysAnswer (whole_of s w) s w

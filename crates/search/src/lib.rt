@@ -61,6 +61,7 @@ pub struct Stepped {
 }
 
 // The phase that the scan reads at each of its steps.
+#[tactic(auto, using(crate::proofs::Steps::scanned_last), unfolding(crate::specs::Search::scan_phase))]
 fn scan_phase(index: u8) -> i8
     ensures { result ≡ scan_phase index }
 {

@@ -1,7 +1,7 @@
 // The weight of eight ticks, from source document 001 (manchester.rs).
 #![tactic(auto)]
 
-ghost use Rattle.std.specs.Prelude.{◌≡◌, ◌<◌};
+ghost use Rattle.std.specs.Prelude.{◌≡◌, ◌<◌, ◌≤◌};
 ghost use Rattle.std.specs.Int.Signed.{mag};
 ghost use Rattle.weight.specs.Weight.{bit_weight, half_weight, weight_of};
 
@@ -22,7 +22,8 @@ fn bit_weight(sample: u8, bit: u8, weight: i16) -> i16
 #[tactic(auto, unfolding(crate::specs::Weight::half_weight, crate::specs::Weight::bit_weight, laws::specs::Pick::pick))]
 fn half_weight(half: u8) -> i16
     requires { half < 16 }
-    ensures { result ≡ half_weight half }
+    ensures value { result ≡ half_weight half }
+    ensures bounds { mag result ≤ 6 }
 {
     bit_weight(half, 3, 1)
         + bit_weight(half, 2, 2)

@@ -1,6 +1,8 @@
 -- `weight::half_weight` meets its contract: each goal is a test of a number below 16, which antt computes at each. Assumes nothing.
 use Prim.Native.Nat.{ℕ}
 use lib.IntN.{ℤ, pos, ◌+ℤ◌}
+use lib.Dec.{leb, leb→le}
+use lib.Signed.{mag}
 use mir.Syntax.{w16}
 use mir.Val.{to_z, of_z}
 use Rattle.laws.specs.Pick.{pick}
@@ -25,9 +27,16 @@ overflow_add-result-3 c =
     (c.bit_weight.ensures, c.bit_weight-2.ensures, c.bit_weight-3.ensures, c.bit_weight-4.ensures)
     (fits_below w16 four 16 tt c.args.half c.requires)
 
-pub returns : goal.returns
+pub returns-clause-value : goal.returns-clause-value
 unfolding bit_weight half_weight pick
-returns c =
+returns-clause-value c =
     rw
     (c.bit_weight.ensures, c.bit_weight-2.ensures, c.bit_weight-3.ensures, c.bit_weight-4.ensures)
     (same→eq (back (four c.args.half)) (half_weight c.args.half) (below (λ n. same_z (back (four n)) (half_weight n)) 16 tt c.args.half c.requires))
+
+pub returns-clause-bounds : goal.returns-clause-bounds
+unfolding bit_weight pick
+returns-clause-bounds c =
+    rw
+    (c.bit_weight.ensures, c.bit_weight-2.ensures, c.bit_weight-3.ensures, c.bit_weight-4.ensures)
+    (leb→le _ _ (below (λ n. leb (mag (back (four n))) 6) 16 tt c.args.half c.requires))

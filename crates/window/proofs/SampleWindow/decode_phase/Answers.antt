@@ -6,6 +6,7 @@ use native.Mathlib.Omega.{arith}
 use lib.Dec.{ltb}
 use lib.IntN.{ℤ, sub_ℕ}
 use Rattle.std.specs.Prelude.{Some, None}
+use Rattle.std.proofs.lemmas.Option.{same_Some}
 use Rattle.laws.specs.Pick.{pick}
 use Rattle.laws.proofs.Digits.{packed_lt}
 use Rattle.window.specs.declared.SampleWindow.{SampleWindow}
@@ -22,15 +23,12 @@ use Rattle.window.proofs.SampleWindow.decode_phase.Goals as goal
 bit : (ws : List ℕ) (i : ℕ) → data_bit ws i < 2
 bit ws i = omega arith
 
-same : (x y : Reading) → Some x ≡ Some y → x ≡ y
-same x y e = cc
-
 -- the stored bits of what was read have room in as many bits
 stored_fit : (r : PhaseBits) (read : Reading) (n : ℕ) → Some read ≡ summary_of r → n ≡ stored_of read.bit_len → read.bits < 2 ^ n
 unfolding summary_of
 stored_fit failed read n e en = absurd cc
 stored_fit (weighed ws) read n e en =
-    rw (en, same read _ e) (packed_lt 2 (stored_bits ws) (data_bit ws) (λ i h. bit ws i))
+    rw (en, same_Some read _ e) (packed_lt 2 (stored_bits ws) (data_bit ws) (λ i h. bit ws i))
 
 module _ (w : SampleWindow) (most : ℕ) (phase : ℤ) (bias : ℕ) (moved : sub_ℕ bias 128 ≡ phase) where
   -- `z` is the phase as it is read back from its bits
@@ -51,7 +49,7 @@ module _ (w : SampleWindow) (most : ℕ) (phase : ℤ) (bias : ℕ) (moved : sub
       go : (r : PhaseBits) → Some read ≡ summary_of r → record { bit_len = len; phase_ticks = phase; score = read.score; «data» = d } ≡ decode_of phase r
       go failed h = absurd cc
       go (weighed ws) h =
-          rw (ed, en, el, same read _ h, placed_is (stored_bits ws) (data_bit ws) (omega arith) (bit ws))
+          rw (ed, en, el, same_Some read _ h, placed_is (stored_bits ws) (data_bit ws) (omega arith) (bit ws))
 
 pub placed-requires : goal.placed-requires
 placed-requires c = (stored_fit _ _ _ (sym c.in-Some.is ∙ c.read_phase.ensures) c.stored.ensures, omega arith)
