@@ -8,14 +8,27 @@ use mathlib.Core.Path.{◌≡◌, refl, sym, ap, ◌∙◌}
 use lib.Dec.{eqb, ltb}
 use lib.ListN.{length, get_or, drop, drop_of_length-le}
 use lib.Seq.{drop-cons}
-use borrow.Author.Tests.{le-leb, lt-leb, leb-true, ltb-false}
+use borrow.Author.Tests.{le-leb, lt-leb, leb-true, lt-ltb, le-ltb, ltb-false}
 use Rattle.std.proofs.lemmas.Option.{none-some, same_Some}
 use Rattle.laws.specs.Pick.{pick}
 use Rattle.laws.proofs.Picked.{on_true, on_false, cases}
 use Rattle.std.specs.Prelude.{Option, Some, None}
 use Rattle.text.specs.Letters.{letter}
 use Rattle.text.specs.Decimals.{is_digit, all_digits, is_decimal, value_from, value_of, is_up_to, number_in}
+use Rattle.text.specs.Code.{digit_in}
 use Rattle.text.proofs.Digits.{Sums}
+
+-- ---- what an answer says that is there only if a test holds
+module _ {A : Type 0} (v : A) where
+  pub picked_none : (t : Bool) → None ≡ pick t (Some v) None → t ≡ false
+  unfolding pick
+  picked_none true e = absurd (none-some v e)
+  picked_none false e = refl
+
+  pub picked_some : (t : Bool) (w : A) → Some w ≡ pick t (Some v) None → (t ≡ true) × (v ≡ w)
+  unfolding pick
+  picked_some true w e = (refl, sym (same_Some w v e))
+  picked_some false w e = absurd (none-some w (sym e))
 
 -- ---- a digit
 pub both_true : (a b : Bool) → (a && b) ≡ true → (a ≡ true) × (b ≡ true)
@@ -28,6 +41,46 @@ digit_between byte =
     cases (λ (t : Bool). t ≡ true → (letter "0" ≤ byte) × (byte ≤ letter "9")) (ltb byte (letter "0"))
     (λ low e. absurd (false≢true e))
     (λ high e. (ltb-false byte (letter "0") high, leb-true byte (letter "9") e))
+
+pub a_digit : (byte : ℕ) → letter "0" ≤ byte → byte ≤ letter "9" → is_digit byte ≡ true
+unfolding is_digit
+a_digit byte low high = on_false (le-ltb byte (letter "0") low) _ _ ∙ le-leb byte (letter "9") high
+
+pub below_digits : (byte : ℕ) → byte < letter "0" → is_digit byte ≡ false
+unfolding is_digit
+below_digits byte low = on_true (lt-ltb byte (letter "0") low) _ _
+
+pub above_digits : (byte : ℕ) → letter "9" < byte → is_digit byte ≡ false
+unfolding is_digit
+above_digits byte high = on_false (le-ltb byte (letter "0") (omega arith)) _ _ ∙ lt-leb byte (letter "9") high
+
+-- ---- each way in which the code answers on a digit
+module _ (byte : ℕ) where
+  pub digit_good : letter "0" ≤ byte → byte ≤ letter "9" → Some (byte - letter "0") ≡ digit_in byte
+  unfolding digit_in
+  digit_good low high = sym (on_true (a_digit byte low high) _ _)
+
+  pub digit_low : byte < letter "0" → None ≡ digit_in byte
+  unfolding digit_in
+  digit_low low = sym (on_false (below_digits byte low) _ _)
+
+  pub digit_high : letter "9" < byte → None ≡ digit_in byte
+  unfolding digit_in
+  digit_high high = sym (on_false (above_digits byte high) _ _)
+
+  -- what such an answer says of the byte
+  module _ {r : Option ℕ} (e : r ≡ digit_in byte) where
+    pub no_digit_read : r ≡ None → is_digit byte ≡ false
+    unfolding digit_in
+    no_digit_read b = picked_none (byte - letter "0") (is_digit byte) (sym b ∙ e)
+
+    pub digit_read : (digit : ℕ) → r ≡ Some digit → (is_digit byte ≡ true) × (digit ≡ byte - letter "0") × (digit ≤ 9)
+    unfolding digit_in
+    digit_read digit b =
+        let was = picked_some (byte - letter "0") (is_digit byte) digit (sym b ∙ e) in
+        (was.0, sym was.1, omega (arith, was.1, (digit_between byte was.0).1))
+
+pub ruleset decimal_digits = (digit_good, digit_low, digit_high)
 
 -- ---- how a decimal begins
 pub none_begun : (s : List ℕ) → length s ≡ 0 → is_decimal s ≡ false
@@ -97,17 +150,6 @@ module _ (most : ℕ) (s : List ℕ) where
   number_good e n v h = ap Some v ∙ sym (on_true (rw (e, le-leb (value_of s) most (omega arith))) _ _)
 
 -- ---- what an answer says of the field
-module _ {A : Type 0} (v : A) where
-  pub picked_none : (t : Bool) → None ≡ pick t (Some v) None → t ≡ false
-  unfolding pick
-  picked_none true e = absurd (none-some v e)
-  picked_none false e = refl
-
-  pub picked_some : (t : Bool) (w : A) → Some w ≡ pick t (Some v) None → (t ≡ true) × (v ≡ w)
-  unfolding pick
-  picked_some true w e = (refl, sym (same_Some w v e))
-  picked_some false w e = absurd (none-some w (sym e))
-
 module _ (most : ℕ) (s : List ℕ) {r : Option ℕ} (e : r ≡ number_in most s) where
   pub no_number_read : r ≡ None → is_up_to most s ≡ false
   unfolding number_in

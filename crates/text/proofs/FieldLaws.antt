@@ -1,15 +1,20 @@
 -- Laws of the parts of a text, for any mark. Assumes nothing.
-use Prim.Native.Nat.{ℕ, zero, suc, ◌+◌, ◌-◌, ◌≤◌, ◌<◌}
+use Prim.Native.Nat.{ℕ, suc, ◌+◌, ◌-◌, ◌≤◌, ◌<◌}
 use native.Mathlib.Decide.{dec_lt}
 use native.Mathlib.Numerals.{add-one}
 use native.Mathlib.Omega.{arith}
 use mathlib.Core.Bool.{Bool, true, false}
 use mathlib.Core.List.{List, [], ◌∷◌, ◌++◌}
 use mathlib.Core.Path.{◌≡◌, refl, sym, ap, ◌∙◌}
-use lib.Dec.{eqb}
-use lib.ListN.{length, get_or, take, drop, length-drop, drop_of_length-le}
-use lib.Seq.{drop-cons, drop-drop, take_all}
-use borrow.Author.Tests.{eq-eqb, ne_eqb}
+use lib.Dec.{eqb, ltb}
+use Rattle.std.specs.Prelude.{min, position, Option, Some, None, cond, count_by, option_map, unwrap_or}
+use Rattle.std.specs.List.{position_or_len, slice_get, slice_split, onto_first}
+use Rattle.std.proofs.lemmas.List.Recursion.{is_position_or_len}
+use Rattle.std.proofs.lemmas.List.Splits.{length-slice_split}
+use Rattle.std.proofs.lemmas.Option.{unwrap_or-slice_get}
+use lib.ListN.{length, take, drop, length-drop, drop_of_length-le}
+use lib.Seq.{drop-drop, take_all}
+use borrow.Author.Tests.{eq-eqb, ltb-false}
 use Rattle.laws.specs.Pick.{pick}
 use Rattle.text.specs.Fields.{grow, parted_at, fields_at, count_at, field_at, bytes_before, joined_by}
 use Rattle.text.specs.ReadBack.{Without, FieldsBack}
@@ -19,16 +24,8 @@ pub rest : (l : List ℕ) (k : ℕ) → take (length l - k) (drop k l) ≡ drop 
 rest l k = take_all (length l - k) (drop k l) (simp length-drop (omega arith))
 
 -- ---- the first mark
--- a turn of the search for it
+-- nothing is left behind the end
 module _ (mark : ℕ) (l : List ℕ) (i : ℕ) where
-  pub mark_here : i < length l → get_or l i 0 ≡ mark → bytes_before mark (drop i l) ≡ 0
-  unfolding bytes_before pick
-  mark_here h e = rw (drop-cons l i 0, eq-eqb _ _ e)
-
-  pub mark_on : i < length l → (get_or l i 0 ≡ mark → ⊥) → bytes_before mark (drop i l) ≡ suc (bytes_before mark (drop (i + 1) l))
-  unfolding bytes_before pick
-  mark_on h n = rw (drop-cons l i 0, ne_eqb _ _ n, add-one i)
-
   pub mark_end : length l ≤ i → bytes_before mark (drop i l) ≡ 0
   unfolding bytes_before
   mark_end h = rw drop_of_length-le
@@ -42,6 +39,71 @@ pub before-≤ : (mark : ℕ) (l : List ℕ) → bytes_before mark l ≤ length 
 unfolding bytes_before
 before-≤ mark [] = omega arith
 before-≤ mark (x ∷ xs) = before_step (eqb x mark) (bytes_before mark xs) (length xs) (before-≤ mark xs)
+
+-- the place that `position` finds, or the length
+before_none : (mark : ℕ) → bytes_before mark [] ≡ 0
+unfolding bytes_before
+before_none mark = refl
+
+pick_cond : {A : Type 0} (t : Bool) {x y u v : A} → x ≡ u → y ≡ v → pick t x y ≡ cond t u v
+unfolding pick
+pick_cond true e f = e
+pick_cond false e f = f
+
+before_next : (mark byte : ℕ) (bytes : List ℕ) → bytes_before mark (byte ∷ bytes) ≡ cond (eqb byte mark) 0 (1 + bytes_before mark bytes)
+unfolding bytes_before
+before_next mark byte bytes = pick_cond (eqb byte mark) refl (omega arith)
+
+unwrapped : (t : Bool) (k n : ℕ) → ltb k n ≡ t → k ≤ n → unwrap_or (cond t (Some k) None) n ≡ k
+unwrapped true k n e h = refl
+unwrapped false k n e h = omega (arith, ltb-false k n e)
+
+module _ (mark : ℕ) (l : List ℕ) where
+  before_is : bytes_before mark l ≡ position_or_len (λ byte. eqb byte mark) l
+  before_is = is_position_or_len (bytes_before mark) (λ byte. eqb byte mark) (before_none mark) (before_next mark) l
+
+  found : unwrap_or (position (λ byte. eqb byte mark) l) (length l) ≡ bytes_before mark l
+  found =
+      let k = position_or_len (λ byte. eqb byte mark) l in
+      unwrapped (ltb k (length l)) k (length l) refl (omega (arith, before_is, before-≤ mark l)) ∙ sym before_is
+
+-- all that is left from a place on, which may lie behind the end
+left_from : (l : List ℕ) (from least : ℕ) → least ≡ min from (length l) → take (length l - least) (drop least l) ≡ drop from l
+left_from l from least e = rest l least ∙ split (dec_lt from (length l))
+  where
+    split : Dec (from < length l) → drop least l ≡ drop from l
+    split (yes within) = let k : least ≡ from = omega arith in rw k
+    split (no behind) = drop_of_length-le l {i = least} (omega arith) ∙ sym (drop_of_length-le l {i = from} (omega arith))
+
+pub first_mark : (mark : ℕ) (l : List ℕ) (from least : ℕ) → least ≡ min from (length l) → {place : Option ℕ} {bytes : ℕ}
+    → place ≡ position (λ byte. eqb byte mark) (take (length l - least) (drop least l)) → bytes ≡ unwrap_or place (length (take (length l - least) (drop least l)))
+    → bytes ≡ bytes_before mark (drop from l)
+first_mark mark l from least e p b = b ∙ rw (p, left_from l from least e) (found mark (drop from l))
+
+-- ---- the fields are the parts that `split` gives
+split_step : (t : Bool) (x : ℕ) {parts fields : List (List ℕ)} → parts ≡ fields → cond t ([] ∷ parts) (onto_first x parts) ≡ pick t ([] ∷ fields) (grow x fields)
+unfolding pick grow
+split_step true x e = rw e
+split_step false x {fields = []} e = rw e
+split_step false x {fields = field ∷ fields} e = rw e
+
+split_fields : (mark : ℕ) (l : List ℕ) → slice_split (λ byte. eqb byte mark) l ≡ fields_at mark l
+unfolding parted_at
+split_fields mark [] = refl
+split_fields mark (x ∷ xs) = split_step (eqb x mark) x (split_fields mark xs)
+
+pub count_marks : (mark : ℕ) (l : List ℕ) → count_by (λ byte. eqb byte mark) l + 1 ≡ count_at mark l
+count_marks mark l = sym (length-slice_split (λ byte. eqb byte mark) l) ∙ ap length (split_fields mark l)
+
+or_none : {A B : Type 0} (v : A → B) (found : Option A) (none : A) → v (unwrap_or found none) ≡ unwrap_or (option_map v found) (v none)
+or_none v None none = refl
+or_none v (Some a) none = refl
+
+-- a field that `nth` found or, if none is there, an empty one
+pub nth_field : (mark n : ℕ) (l : List ℕ) {A : Type 0} (v : A → List ℕ) (found : Option A) {none r : A}
+    → option_map v found ≡ slice_get (slice_split (λ byte. eqb byte mark) l) n → r ≡ unwrap_or found none → v none ≡ [] → v r ≡ field_at mark n l
+nth_field mark n l v found {none} e f empty =
+    ap v f ∙ or_none v found none ∙ rw (e, empty, split_fields mark l) (unwrap_or-slice_get (fields_at mark l) n [])
 
 -- ---- the parts, whatever a text without a byte has of them
 module _ (mark : ℕ) (none : List (List ℕ)) where
@@ -113,47 +175,6 @@ module _ (mark : ℕ) where
 
     pub last_at : length l ≤ r → fields_at mark (drop from l) ≡ drop from l ∷ []
     last_at h = fields_last (drop from l) (simp length-drop (omega arith))
-
-  -- ---- a turn of the count
-  grown_length : (x : ℕ) (fs : List (List ℕ)) → 0 < length fs → length (grow x fs) ≡ length fs
-  unfolding grow
-  grown_length x [] h = absurd (omega (arith, h))
-  grown_length x (f ∷ fs) h = refl
-
-  module _ (l : List ℕ) (i : ℕ) where
-    pub count_here : i < length l → get_or l i 0 ≡ mark → count_at mark (drop i l) ≡ suc (count_at mark (drop (i + 1) l))
-    unfolding parted_at pick
-    count_here h e = rw (drop-cons l i 0, eq-eqb _ _ e, add-one i)
-
-    pub count_on : i < length l → (get_or l i 0 ≡ mark → ⊥) → count_at mark (drop i l) ≡ count_at mark (drop (i + 1) l)
-    unfolding parted_at pick
-    count_on h n = rw (drop-cons l i 0, ne_eqb _ _ n, add-one i) (grown_length (get_or l i 0) _ (fields_some (drop (suc i) l)))
-
-    pub count_end : length l ≤ i → count_at mark (drop i l) ≡ 1
-    unfolding parted_at
-    count_end h = rw drop_of_length-le
-
-  -- ---- a turn of the search for a field
-  behind : (f : List ℕ) (fs : List (List ℕ)) (n : ℕ) → 0 < n → get_or (f ∷ fs) n [] ≡ get_or fs (n - 1) []
-  behind f fs zero h = absurd (omega (arith, h))
-  behind f fs (suc n) h = let e : n ≡ suc n - 1 = omega arith in ap (λ (j : ℕ). get_or fs j []) e
-
-  module _ (l : List ℕ) (from r : ℕ) (e : r ≡ from + bytes_before mark (drop from l)) where
-    pub field_on : (n : ℕ) → 0 < n → r < length l → field_at mark n (drop from l) ≡ field_at mark (n - 1) (drop (r + 1) l)
-    field_on n some h = ap (λ (fs : List (List ℕ)). get_or fs n []) (cut_at l from r e ([] ∷ []) h) ∙ behind _ (fields_at mark (drop (r + 1) l)) n some
-
-    -- what stands behind the last byte is read as a field that isn't there
-    pub field_gone : (n : ℕ) → 0 < n → length l ≤ r → take (length l - r) (drop r l) ≡ field_at mark n (drop from l)
-    field_gone n some h =
-        rest l r ∙ drop_of_length-le l h ∙ sym (ap (λ (fs : List (List ℕ)). get_or fs n []) (last_at l from r e h) ∙ behind _ [] n some)
-
-    pub field_here : (n : ℕ) → n ≤ 0 → from ≤ length l → take (r - from) (drop from l) ≡ field_at mark n (drop from l)
-    field_here zero none h = split (dec_lt r (length l))
-      where
-        split : Dec (r < length l) → take (r - from) (drop from l) ≡ field_at mark 0 (drop from l)
-        split (yes cut_off) = sym (ap (λ (fs : List (List ℕ)). get_or fs 0 []) (cut_at l from r e ([] ∷ []) cut_off))
-        split (no all_left) = take_all (r - from) (drop from l) (simp length-drop (omega arith)) ∙ sym (ap (λ (fs : List (List ℕ)). get_or fs 0 []) (last_at l from r e (omega arith)))
-    field_here (suc n) none h = absurd (omega (arith, none))
 
 -- ---- parts that end with their marks: a text without a byte has none
 module _ (mark : ℕ) where

@@ -13,45 +13,80 @@ use borrow.Author.Tests.{lt-ltb, le-ltb, ltb-true, le-leb, lt-leb, eq-eqb, eqb-t
 use Rattle.laws.specs.Pick.{pick}
 use Rattle.laws.proofs.Below.{below}
 use Rattle.laws.proofs.Picked.{on_true, on_false}
-use Rattle.std.specs.Prelude.{Some, None}
+use Rattle.std.specs.Prelude.{Option, Some, None, is_some}
+use Rattle.std.specs.List.{list_all}
 use Rattle.text.specs.Letters.{letter}
 use Rattle.text.specs.Decimals.{is_digit}
 use Rattle.text.specs.Hex.{digit_value, hex_digit, all_hex, bytes_of, is_hex, filled_by, hex_of, hexes_of, hex_value_from, hex_number_in, hex_digits_of}
 use Rattle.text.specs.ReadBack.{AllBytes, HexBack, HexNumbersBack}
 use Rattle.text.proofs.Digits.{Sums, Lasts, value_behind, length_lasts}
-use Rattle.text.proofs.DecimalLaws.{both_true}
+use Rattle.text.specs.Code.{hex_digit_in}
+use Rattle.text.proofs.DecimalLaws.{both_true, picked_none, picked_some, a_digit, below_digits, above_digits}
 
 -- ---- each way in which the code answers on a digit
-module _ (byte : ℕ) {digit : Bool} (e : digit ≡ is_digit byte) where
-  pub value_decimal : digit ≡ true → byte - letter "0" ≡ digit_value byte
+module _ (byte : ℕ) where
+  digit_some : {value : ℕ} → value ≡ digit_value byte → value < 16 → Some value ≡ hex_digit_in byte
+  unfolding hex_digit_in
+  digit_some e small = rw e (sym (on_true (lt-ltb (digit_value byte) 16 (omega arith)) _ _))
+
+  digit_none : 16 ≡ digit_value byte → None ≡ hex_digit_in byte
+  unfolding hex_digit_in
+  digit_none e = sym (on_false (le-ltb (digit_value byte) 16 (omega arith)) _ _)
+
+  pub hex_decimal : letter "0" ≤ byte → byte ≤ letter "9" → Some (byte - letter "0") ≡ hex_digit_in byte
   unfolding digit_value
-  value_decimal t = sym (on_true (sym e ∙ t) _ _)
+  hex_decimal low high = digit_some (sym (on_true (a_digit byte low high) _ _)) (omega arith)
 
-  module _ (n : digit ≡ false) where
-    pub value_low : byte < letter "a" → 16 ≡ digit_value byte
-    unfolding digit_value
-    value_low low = sym (on_false (sym e ∙ n) _ _ ∙ on_true (lt-ltb byte (letter "a") low) _ _)
+  pub hex_letter : letter "a" ≤ byte → byte ≤ letter "f" → Some (byte - letter "a" + 10) ≡ hex_digit_in byte
+  unfolding digit_value
+  hex_letter low high =
+      digit_some
+      (sym (on_false (above_digits byte (omega arith)) _ _ ∙ on_false (le-ltb byte (letter "a") low) _ _ ∙ on_false (le-ltb (letter "f") byte high) _ _))
+      (omega arith)
 
-    pub value_high : letter "f" < byte → 16 ≡ digit_value byte
-    unfolding digit_value
-    value_high high =
-        sym (on_false (sym e ∙ n) _ _ ∙ on_false (le-ltb byte (letter "a") (omega arith)) _ _ ∙ on_true (lt-ltb (letter "f") byte high) _ _)
+  pub hex_low : byte < letter "0" → None ≡ hex_digit_in byte
+  unfolding digit_value
+  hex_low low = digit_none (sym (on_false (below_digits byte low) _ _ ∙ on_true (lt-ltb byte (letter "a") (omega arith)) _ _))
 
-    pub value_letter : letter "a" ≤ byte → byte ≤ letter "f" → byte - letter "a" + 10 ≡ digit_value byte
-    unfolding digit_value
-    value_letter low high =
-        sym (on_false (sym e ∙ n) _ _ ∙ on_false (le-ltb byte (letter "a") low) _ _ ∙ on_false (le-ltb (letter "f") byte high) _ _)
+  pub hex_between : letter "9" < byte → byte < letter "a" → None ≡ hex_digit_in byte
+  unfolding digit_value
+  hex_between low high = digit_none (sym (on_false (above_digits byte low) _ _ ∙ on_true (lt-ltb byte (letter "a") high) _ _))
+
+  pub hex_high : letter "f" < byte → None ≡ hex_digit_in byte
+  unfolding digit_value
+  hex_high high =
+      digit_none
+      (sym (on_false (above_digits byte (omega arith)) _ _ ∙ on_false (le-ltb byte (letter "a") (omega arith)) _ _ ∙ on_true (lt-ltb (letter "f") byte high) _ _))
+
+  -- what such an answer says of the byte
+  module _ {r : Option ℕ} (e : r ≡ hex_digit_in byte) where
+    pub no_hex_read : r ≡ None → ltb (digit_value byte) 16 ≡ false
+    unfolding hex_digit_in
+    no_hex_read b = picked_none (digit_value byte) (ltb (digit_value byte) 16) (sym b ∙ e)
+
+    pub hex_read : (digit : ℕ) → r ≡ Some digit → (ltb (digit_value byte) 16 ≡ true) × (digit ≡ digit_value byte) × (digit < 16)
+    unfolding hex_digit_in
+    hex_read digit b =
+        let was = picked_some (digit_value byte) (ltb (digit_value byte) 16) digit (sym b ∙ e) in
+        (was.0, sym was.1, omega (arith, was.1, ltb-true (digit_value byte) 16 was.0))
+
+pub ruleset hex_digits = (hex_decimal, hex_letter, hex_low, hex_between, hex_high)
+
+some_step : (t : Bool) (value : ℕ) → is_some (pick t (Some value) None) ≡ t
+unfolding pick
+some_step true value = refl
+some_step false value = refl
+
+pub all_some : (field : List ℕ) → list_all (λ byte. is_some (hex_digit_in byte)) field ≡ all_hex field
+unfolding all_hex hex_digit_in
+all_some [] = refl
+all_some (byte ∷ field) = rw (some_step (ltb (digit_value byte) 16) (digit_value byte), all_some field)
 
 -- ---- a turn of the loop over the digits
 module _ (f : List ℕ) (i : ℕ) where
-  module _ (h : i < length f) (d : ℕ) (e : d ≡ digit_value (get_or f i 0)) where
-    pub hex_bad : 15 < d → all_hex (drop i f) ≡ false
-    unfolding all_hex
-    hex_bad big = rw (drop-cons f i 0, le-ltb (digit_value (get_or f i 0)) 16 (omega arith))
-
-    pub hex_good : d ≤ 15 → all_hex (drop i f) ≡ all_hex (drop (i + 1) f)
-    unfolding all_hex
-    hex_good small = rw (drop-cons f i 0, lt-ltb (digit_value (get_or f i 0)) 16 (omega arith), add-one i)
+  pub hex_on : i < length f → {t : Bool} → ltb (digit_value (get_or f i 0)) 16 ≡ t → all_hex (drop i f) ≡ (t && all_hex (drop (i + 1) f))
+  unfolding all_hex
+  hex_on h e = rw (drop-cons f i 0, e, add-one i)
 
   pub hex_end : length f ≤ i → all_hex (drop i f) ≡ true
   unfolding all_hex
@@ -78,6 +113,11 @@ length_bytes (top ∷ []) = refl
 length_bytes (top ∷ (low ∷ f)) = omega (arith, length_bytes f)
 
 -- ---- a turn of the loop over the pairs of digits
+-- a digit that is one
+pub known_digit : (byte : ℕ) {r : Option ℕ} → r ≡ hex_digit_in byte → digit_value byte < 16 → r ≡ Some (digit_value byte)
+unfolding hex_digit_in
+known_digit byte e small = e ∙ on_true (lt-ltb (digit_value byte) 16 small) _ _
+
 pair : (h : List ℕ) (i : ℕ) → 2 * i + 1 < length h → drop (2 * i) h ≡ get_or h (2 * i) 0 ∷ (get_or h (2 * i + 1) 0 ∷ drop (2 * (i + 1)) h)
 pair h i more =
     let e : 2 * (i + 1) ≡ suc (2 * i + 1) = omega arith in

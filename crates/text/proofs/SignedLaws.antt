@@ -1,23 +1,22 @@
 -- Laws of signed numbers: what a field is read as, and what is written of one. Assumes nothing.
-use Prim.Native.Nat.{ℕ, suc, ◌-◌, ◌≤◌, ◌<◌}
+use Prim.Native.Nat.{ℕ, suc, ◌≤◌, ◌<◌}
 use native.Mathlib.Nat.{not-suc-le-zero}
 use native.Mathlib.Omega.{arith}
-use mathlib.Core.Bool.{Bool, true, false, and-false}
+use mathlib.Core.Bool.{Bool, true, false, and-true, and-false}
 use mathlib.Core.List.{List, [], ◌∷◌}
 use mathlib.Core.Path.{◌≡◌, refl, sym, ap, ◌∙◌}
-use lib.Dec.{T}
+use lib.Dec.{T, eqb}
 use lib.IntN.{ℤ, pos, negsuc, neg_ℤ, nat_abs}
-use lib.ListN.{length, get_or, take, drop, length-drop}
-use lib.Seq.{take_all}
+use lib.ListN.{length, get_or, take, drop}
 use lib.Signed.{mag, lt_z}
-use borrow.Author.Tests.{lt-ltb, le-ltb, ltb-true, eq-eqb, ne_eqb}
+use borrow.Author.Tests.{lt-ltb, le-ltb, ltb-true}
 use mir.Syntax.{w8}
 use mir.Val.{SFits, to_z, of_z}
 use mir.ValLaws.{to_z-of_z}
 use Rattle.laws.specs.Pick.{pick}
 use Rattle.laws.proofs.Below.{below, same_z, same→eq}
 use Rattle.laws.proofs.Picked.{on_true, on_false}
-use Rattle.std.specs.Prelude.{Option, Some, None}
+use Rattle.std.specs.Prelude.{Option, Some, None, bytes_eq}
 use Rattle.text.specs.Letters.{minus}
 use Rattle.text.specs.Decimals.{is_digit, all_digits, is_decimal, value_from, value_of, is_up_to, byte_in, decimal_in, decimal_of}
 use Rattle.text.specs.Signed.{below_zero, signed_in, signed_of}
@@ -59,23 +58,20 @@ module _ (s : List ℕ) {r : Option ℕ} (e : r ≡ byte_in 128 s) where
 plain_kept : (n : ℕ) → n ≤ 127 → to_z w8 n ≡ pos n
 plain_kept n h = same→eq _ _ (below (λ n. same_z (to_z w8 n) (pos n)) 128 tt n (omega arith))
 
-pub signed_none : (s : List ℕ) → length s ≡ 0 → None ≡ signed_in s
-unfolding signed_in is_up_to is_decimal pick
-signed_none [] e = refl
-signed_none (x ∷ s) e = absurd (omega (arith, e))
+-- whether the field begins with a minus, as `strip_prefix` tests it
+begins : (s : List ℕ) → bytes_eq (take 1 s) (minus ∷ []) ≡ eqb (get_or s 0 0) minus
+begins [] = refl
+begins (byte ∷ s) = and-true (eqb byte minus)
 
 module _ (s : List ℕ) where
-  all_behind : take (length s - 1) (drop 1 s) ≡ drop 1 s
-  all_behind = take_all (length s - 1) (drop 1 s) (simp length-drop (omega arith))
-
-  pub signed_minus : get_or s 0 0 ≡ minus → {z : Option ℤ} → z ≡ below_zero (take (length s - 1) (drop 1 s)) → z ≡ signed_in s
+  pub signed_minus : bytes_eq (take 1 s) (minus ∷ []) ≡ true → {digits : List ℕ} → digits ≡ drop 1 s → {z : Option ℤ} → z ≡ below_zero digits → z ≡ signed_in s
   unfolding signed_in
-  signed_minus m e = e ∙ ap below_zero all_behind ∙ sym (on_true (eq-eqb (get_or s 0 0) minus m) _ _)
+  signed_minus m d e = e ∙ ap below_zero d ∙ sym (on_true (sym (begins s) ∙ m) _ _)
 
-  module _ (m : get_or s 0 0 ≡ minus → ⊥) {r : Option ℕ} (e : r ≡ byte_in 127 s) where
+  module _ (m : bytes_eq (take 1 s) (minus ∷ []) ≡ false) {r : Option ℕ} (e : r ≡ byte_in 127 s) where
     plain : signed_in s ≡ pick (is_up_to 127 s) (Some (pos (value_of s))) None
     unfolding signed_in
-    plain = on_false (ne_eqb (get_or s 0 0) minus m) _ _
+    plain = on_false (sym (begins s) ∙ m) _ _
 
     pub signed_bad : r ≡ None → None ≡ signed_in s
     signed_bad b = sym (plain ∙ on_false (no_number_read 127 s e b) _ _)

@@ -2,14 +2,14 @@
 use Prim.Native.Nat.{ℕ, suc, ◌+◌, ◌-◌, ◌≤◌, ◌<◌}
 use native.Mathlib.Decide.{dec_lt}
 use native.Mathlib.Nat.{add-zero}
-use native.Mathlib.Numerals.{add-one}
 use native.Mathlib.Omega.{arith}
 use mathlib.Core.Bool.{Bool, true, false}
-use mathlib.Core.List.{List, [], ◌∷◌, ◌++◌}
+use mathlib.Core.List.{List, [], ◌∷◌, ◌++◌, append_assoc}
 use mathlib.Core.Path.{◌≡◌, sym, ap, ◌∙◌}
 use lib.Dec.{leb}
-use lib.ListN.{length, get_or, drop, set, length-append, drop_of_length-le}
-use lib.Seq.{sets, length-sets, set_comm, drop-cons}
+use lib.ListN.{length, take, drop, set, length-append}
+use lib.Seq.{sets, sets-eq, length-sets, set_comm, drop-drop}
+use borrow.Rule.Slice.PartMut.{put_mid}
 use borrow.Author.Tests.{le-leb, lt-leb, leb-true}
 use Rattle.laws.proofs.Picked.{on_true, on_false}
 use Rattle.text.specs.Writing.{room_at, place_after, buffer_after}
@@ -91,15 +91,12 @@ then text more place before {middle} {after} {next} {last} fits a b =
     let behind = stored (length more) more next middle (omega arith) b in
     (behind.0 ∙ omega arith, behind.1 ∙ rw (a.1, n) (sym (sets_append before place text more)))
 
--- ---- a text that is copied from its front
-pub copy_on : (buffer text all : List ℕ) (place i : ℕ) → i < length text → sets buffer (place + i) (drop i text) ≡ all
-    → sets (set buffer (place + i) (get_or text i 0)) (place + (i + 1)) (drop (i + 1) text) ≡ all
-copy_on buffer text all place i h e =
-    let next : place + (i + 1) ≡ suc (place + i) = omega arith in
-    rw (next, add-one i) (ap (sets buffer (place + i)) (sym (drop-cons text i 0 h)) ∙ e)
-
-pub copy_end : (buffer text all : List ℕ) (place i : ℕ) → length text ≤ i → sets buffer (place + i) (drop i text) ≡ all → buffer ≡ all
-copy_end buffer text all place i h e = ap (sets buffer (place + i)) (sym (drop_of_length-le text h)) ∙ e
+-- ---- a text that is copied whole
+pub copied : (buffer text : List ℕ) (place : ℕ) → place + length text ≤ length buffer → {new : List ℕ} → new ≡ text
+    → put_mid place (place + length text - place) buffer new ≡ sets buffer place text
+copied buffer text place fits e =
+    let size : place + length text - place ≡ length text = omega arith in
+    rw (size, e, sets-eq text buffer place fits, drop-drop (length text) place buffer) (sym (append_assoc (take place buffer) text (drop (place + length text) buffer)))
 
 -- ---- a text that is stored from its end
 pub sets_back : (buffer : List ℕ) (place byte : ℕ) (text : List ℕ) → sets (set buffer (place + length text) byte) place text ≡ sets buffer place (text ++ (byte ∷ []))

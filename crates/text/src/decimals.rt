@@ -1,31 +1,31 @@
 // Decimals: digits without a sign and without leading zeros.
 ghost use Rattle.std.specs.Prelude.{◌&&◌, ◌≡◌, length};
-ghost use Rattle.text.specs.Decimals.{is_digit, all_digits, is_decimal, number_in, byte_in, decimal_of};
+ghost use Rattle.text.specs.Decimals.{all_digits, is_decimal, number_in, byte_in, decimal_of};
 ghost use Rattle.text.specs.Writing.{place_past, buffer_with};
-ghost use Rattle.text.specs.Code.{Put, digits};
+ghost use Rattle.text.specs.Code.{Put, digits, digit_in};
 
 use crate::writing;
 
-pub(crate) fn is_digit(byte: u8) -> bool
-    ensures { result ≡ is_digit byte }
+// The value of a digit.
+#[tactic(auto, using(crate::proofs::DecimalLaws::decimal_digits))]
+fn digit_value(byte: u8) -> Option<u8>
+    ensures { result ≡ digit_in byte }
 {
-    if byte < b'0' {
-        return false;
+    match byte {
+        b'0'..=b'9' => Some(byte - b'0'),
+        _ => None,
     }
-    byte <= b'9'
 }
 
 // Whether the field has a byte and no leading zero.
 fn well_begun(field: &[u8]) -> bool
     ensures { is_decimal field.now ≡ (result && all_digits field.now) }
 {
-    if field.len() == 0 {
-        return false;
+    match field {
+        [] => false,
+        [_] => true,
+        [first, ..] => *first != b'0',
     }
-    if field.len() == 1 {
-        return true;
-    }
-    field[0] != b'0'
 }
 
 // Reads a decimal up to `most`. The field may have any number of digits, and nothing overflows.
@@ -35,19 +35,12 @@ pub fn read_number(field: &[u8], most: u32) -> Option<u64>
     if !well_begun(field) {
         return None;
     }
-    let limit = most as u64;
     let mut number: u64 = 0;
-    let mut i = 0;
-    while i < field.len() {
-        let byte = field[i];
-        if !is_digit(byte) {
+    for &byte in field {
+        number = number * 10 + digit_value(byte)? as u64;
+        if number > most as u64 {
             return None;
         }
-        number = number * 10 + (byte - b'0') as u64;
-        if limit < number {
-            return None;
-        }
-        i += 1;
     }
     Some(number)
 }

@@ -7,55 +7,30 @@ ghost use Rattle.text.specs.Fields.{count_at, field_at, bytes_before};
 pub fn find(text: &[u8], mark: u8, from: usize) -> usize
     ensures { result ≡ from + bytes_before mark (drop from text.now) }
 {
-    let mut i = from;
-    while i < text.len() {
-        if text[i] == mark {
-            return i;
-        }
-        i += 1;
-    }
-    i
+    let rest = &text[from.min(text.len())..];
+    let bytes = rest.iter().position(|byte| *byte == mark);
+    from + bytes.unwrap_or(rest.len())
 }
 
 // The first `count` bytes of the text, or all of it if it is shorter.
 pub fn first(text: &[u8], count: usize) -> &[u8]
     ensures { result.now ≡ take count text.now }
 {
-    if text.len() <= count {
-        return text;
-    }
-    &text[..count]
+    &text[..count.min(text.len())]
 }
 
 // An empty text has one field too.
 pub fn count(text: &[u8], mark: u8) -> usize
     ensures { result ≡ count_at mark text.now }
 {
-    let mut fields: usize = 1;
-    let mut i: usize = 0;
-    while i < text.len() {
-        if text[i] == mark {
-            fields += 1;
-        }
-        i += 1;
-    }
-    fields
+    1 + text.iter().filter(|byte| **byte == mark).count()
 }
 
 // Field n, counted from 0.
 pub fn field(text: &[u8], mark: u8, n: u8) -> &[u8]
     ensures { result.now ≡ field_at mark n text.now }
 {
-    let mut left = n;
-    let mut from: usize = 0;
-    while 0 < left {
-        left -= 1;
-        let end = find(text, mark, from);
-        if end == text.len() {
-            return &text[end..];
-        }
-        from = end + 1;
-    }
-    let end = find(text, mark, from);
-    &text[from..end]
+    text.split(|byte| *byte == mark)
+        .nth(n as usize)
+        .unwrap_or(&[])
 }

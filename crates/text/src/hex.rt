@@ -1,47 +1,34 @@
 // Lower-case hex: two digits for a byte, and numbers of a fixed width.
 ghost use Rattle.std.specs.Prelude.{true, ◌≡◌, ◌*◌, ◌<◌, length};
-ghost use Rattle.text.specs.Hex.{digit_value, hex_digit, all_hex, bytes_of, is_hex, filled_by, hexes_of, hex_number_in, hex_digits_of};
+ghost use Rattle.text.specs.Hex.{hex_digit, all_hex, bytes_of, is_hex, filled_by, hexes_of, hex_number_in, hex_digits_of};
 ghost use Rattle.text.specs.Writing.{place_past, buffer_with};
+ghost use Rattle.text.specs.Code.{hex_digit_in};
 
-use crate::{decimals, writing};
+use crate::writing;
 
-// The value of a hex digit, and 16 for any other byte.
-fn digit_value(byte: u8) -> u8
-    ensures { result ≡ digit_value byte }
+// The value of a hex digit.
+#[tactic(auto, using(crate::proofs::HexLaws::hex_digits))]
+fn digit_value(byte: u8) -> Option<u8>
+    ensures { result ≡ hex_digit_in byte }
 {
-    if decimals::is_digit(byte) {
-        return byte - b'0';
+    match byte {
+        b'0'..=b'9' => Some(byte - b'0'),
+        b'a'..=b'f' => Some(byte - b'a' + 10),
+        _ => None,
     }
-    if byte < b'a' {
-        return 16;
-    }
-    if b'f' < byte {
-        return 16;
-    }
-    byte - b'a' + 10
 }
 
 fn all_hex(field: &[u8]) -> bool
     ensures { result ≡ all_hex field.now }
 {
-    let mut i = 0;
-    while i < field.len() {
-        if 15 < digit_value(field[i]) {
-            return false;
-        }
-        i += 1;
-    }
-    true
+    field.iter().all(|byte| digit_value(*byte).is_some())
 }
 
 // Whether the field is two hex digits for each of `count` bytes, and nothing else.
 fn is_hex(field: &[u8], count: usize) -> bool
     ensures { result ≡ is_hex count field.now }
 {
-    if field.len() % 2 != 0 {
-        return false;
-    }
-    if field.len() / 2 != count {
+    if field.len() % 2 != 0 || field.len() / 2 != count {
         return false;
     }
     all_hex(field)
@@ -52,12 +39,10 @@ fn fill(field: &[u8], bytes: &mut [u8])
     requires { (length field.now ≡ 2 * length bytes.old) × (all_hex field.now ≡ true) }
     ensures { bytes.new ≡ bytes_of field.now }
 {
-    let mut i = 0;
-    while i < bytes.len() {
-        let high = digit_value(field[2 * i]);
-        let low = digit_value(field[2 * i + 1]);
+    for i in 0..bytes.len() {
+        let high = digit_value(field[2 * i]).unwrap();
+        let low = digit_value(field[2 * i + 1]).unwrap();
         bytes[i] = high * 16 + low;
-        i += 1;
     }
 }
 
@@ -78,21 +63,12 @@ pub fn read_hex(field: &[u8], bytes: &mut [u8]) -> bool
 pub fn read_hex_number(field: &[u8], width: usize) -> Option<u64>
     ensures { result ≡ hex_number_in width field.now }
 {
-    if 16 < width {
-        return None;
-    }
-    if field.len() != width {
+    if 16 < width || field.len() != width {
         return None;
     }
     let mut number: u64 = 0;
-    let mut i = 0;
-    while i < width {
-        let digit = digit_value(field[i]);
-        if 15 < digit {
-            return None;
-        }
-        number = number * 16 + digit as u64;
-        i += 1;
+    for &byte in field {
+        number = number * 16 + digit_value(byte)? as u64;
     }
     Some(number)
 }
@@ -117,13 +93,10 @@ pub fn put_hex(out: &mut [u8], at: usize, bytes: &[u8]) -> usize
         return at;
     }
     let mut end = at;
-    let mut i = 0;
-    while i < bytes.len() {
-        let byte = bytes[i];
+    for &byte in bytes {
         out[end] = hex_digit(byte / 16);
         out[end + 1] = hex_digit(byte % 16);
         end += 2;
-        i += 1;
     }
     end
 }

@@ -9,14 +9,10 @@ use crate::{decimals, writing};
 pub fn read_signed(field: &[u8]) -> Option<i8>
     ensures { result ≡ signed_in field.now }
 {
-    if field.len() == 0 {
-        return None;
+    match field.strip_prefix(b"-") {
+        Some(digits) => negative(digits),
+        None => Some(decimals::read_byte(field, 127)? as i8),
     }
-    if field[0] == b'-' {
-        return negative(&field[1..]);
-    }
-    let number = decimals::read_byte(field, 127)?;
-    Some(number as i8)
 }
 
 // Reads the digits behind a minus.
@@ -34,18 +30,7 @@ fn minus(number: u8) -> i8
     requires { number ≤ 128 }
     ensures { result ≡ neg_ℤ (pos number) }
 {
-    (0 - number as i16) as i8
-}
-
-fn magnitude(number: i8) -> u32
-    ensures { result ≡ nat_abs number }
-{
-    let wide = number as i16;
-    if wide < 0 {
-        (0 - wide) as u32
-    } else {
-        wide as u32
-    }
+    -(number as i16) as i8
 }
 
 #[tactic(auto, using(crate::proofs::SignedLaws::with_minus, crate::proofs::SignedLaws::without_minus))]
@@ -53,7 +38,7 @@ pub fn put_signed(out: &mut [u8], at: usize, number: i8) -> usize
     ensures value { result ≡ place_past (signed_of number) at out.old }
     ensures out_after { out.new ≡ buffer_with (signed_of number) at out.old }
 {
-    let digits = magnitude(number);
+    let digits = number.unsigned_abs() as u32;
     if number < 0 {
         return put_below_zero(out, at, digits);
     }

@@ -6,10 +6,7 @@ ghost use Rattle.text.specs.Writing.{place_past, buffer_with};
 pub fn has_room(len: usize, at: usize, bytes: usize) -> bool
     ensures { result ≡ leb (at + bytes) len }
 {
-    if len < bytes {
-        return false;
-    }
-    at <= len - bytes
+    bytes <= len && at <= len - bytes
 }
 
 pub fn put_byte(out: &mut [u8], at: usize, byte: u8) -> usize
@@ -30,10 +27,7 @@ pub fn put_text(out: &mut [u8], at: usize, text: &[u8]) -> usize
     if !has_room(out.len(), at, text.len()) {
         return at;
     }
-    let mut i = 0;
-    while i < text.len() {
-        out[at + i] = text[i];
-        i += 1;
-    }
-    at + i
+    let end = at + text.len();
+    out[at..end].copy_from_slice(text);
+    end
 }

@@ -2,14 +2,14 @@
 use mathlib.Core.Path.{◌≡◌}
 use mathlib.Core.Bool.{true}
 use mathlib.Core.List.{◌++◌}
-use Prim.Native.Nat.{◌*◌, ◌-◌, ◌≤◌}
-use lib.ListN.{length, take, drop}
+use Prim.Native.Nat.{◌*◌}
+use lib.ListN.{take, drop}
 use Rattle.text.specs.Hex.{all_hex, bytes_of}
 use Rattle.text.proofs.hex.fill.Given as goal
 
 abbrev pub invariant-loop-i : goal.invariant-loop-i
 invariant-loop-i l =
-    (l.i ≤ length l.initial.bytes) × (length l.bytes ≡ length l.initial.bytes) × (take l.i l.bytes ++ bytes_of (drop (2 * l.i) l.field) ≡ bytes_of l.field) × (all_hex (drop (2 * l.i) l.field) ≡ true)
-
-abbrev pub decreases-loop-i : goal.decreases-loop-i
-decreases-loop-i l = length l.initial.bytes - l.i
+    record {
+      filled : take l.i l.bytes ++ bytes_of (drop (2 * l.i) l.field) ≡ bytes_of l.field;
+      hex : all_hex (drop (2 * l.i) l.field) ≡ true;
+    }
