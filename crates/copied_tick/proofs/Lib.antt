@@ -1,2 +1,1 @@
 pub mod Sole
-mod Values

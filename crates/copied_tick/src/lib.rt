@@ -12,7 +12,7 @@ pub fn tick(station: &mut DaliBitbangPhy, bus_is_high: bool) -> bool
     ensures station_after { station.new ≡ (ticked station.old bus_is_high).station }
     ensures value { result ≡ (ticked station.old bus_is_high).driven_high }
 {
-    let next = (*station).tick(bus_is_high);
+    let next = station.tick(bus_is_high);
     *station = next.station;
     next.driven_high
 }

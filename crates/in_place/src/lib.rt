@@ -14,59 +14,53 @@ pub fn tick(station: &mut DaliBitbangPhy, bus_is_high: bool) -> bool
     ensures station_after { station.new ≡ (ticked station.old bus_is_high).station }
     ensures value { result ≡ (ticked station.old bus_is_high).driven_high }
 {
-    let old = (*station).core;
-    let counted = old.count_runs(bus_is_high);
-    (*station).core.runs = counted.runs;
-    let bus = counted.bus;
-    let bus_state = bus.bus_state;
-    match bus_state {
+    let counted = station.core.count_runs(bus_is_high);
+    station.core.runs = counted.runs;
+    match counted.bus.bus_state {
         BusState::Idle => {
-            let core = (*station).core;
+            let core = station.core;
             if bus_is_high {
                 let next = core.count_idle();
-                (*station).core.bus = next.bus;
+                station.core.bus = next.bus;
                 return next.bus.driven_high;
             }
             let next = core.tick_idle(false);
-            (*station).core = next;
-            return next.bus.driven_high;
+            station.core = next;
+            next.bus.driven_high
         }
         BusState::Rx => {
-            let core = (*station).core;
-            let from = core.rx;
-            if from.rx_bit_cnt == 7 {
-                let data = fsm::fill((*station).rx_data, from, bus_is_high);
-                (*station).rx_data = data;
+            let core = station.core;
+            if core.rx.rx_bit_cnt == 7 {
+                station.rx_data = fsm::fill(station.rx_data, core.rx, bus_is_high);
             }
-            let rx = fsm::sample(from, bus_is_high);
+            let rx = fsm::sample(core.rx, bus_is_high);
             if rx.rx_idle < RX_IDLE_LINE_HIGH_TICKS {
-                (*station).core.rx = rx;
+                station.core.rx = rx;
                 return core.bus.driven_high;
             }
             let next = fsm::end_rx(core, rx);
-            let samples = fsm::with_end((*station).rx_data, rx);
-            let ended = (*station).finish_rx_and_notify(next, samples);
-            *station = ended;
-            return next.bus.driven_high;
+            let samples = fsm::with_end(station.rx_data, rx);
+            *station = station.finish_rx_and_notify(next, samples);
+            next.bus.driven_high
         }
         BusState::Tx => {
-            let tx_hb = (*station).tx_hb;
-            let holding = (*station).core;
+            let tx_hb = station.tx_hb;
+            let holding = station.core;
             if holding.holds(tx_hb, bus_is_high) {
                 let next = holding.hold_half_bit();
-                (*station).core.tx = next.tx;
+                station.core.tx = next.tx;
                 return next.bus.driven_high;
             }
-            let core = (*station).core;
+            let core = station.core;
             let next = core.tick_tx(tx_hb, bus_is_high);
-            (*station).core = next;
-            return next.bus.driven_high;
+            station.core = next;
+            next.bus.driven_high
         }
         BusState::CollisionTx => {
-            let core = (*station).core;
+            let core = station.core;
             let next = core.tick_collision_tx(bus_is_high);
-            (*station).core = next;
-            return next.bus.driven_high;
+            station.core = next;
+            next.bus.driven_high
         }
     }
 }

@@ -1,4 +1,5 @@
 -- One turn of each of the two loops: what is left to do gives the answer of the whole. Assumes nothing.
+use Rattle.std.specs.Prelude.{Result, ⊤}
 use mathlib.Core.Path.{◌≡◌, refl, sym, ◌∙◌}
 use mathlib.Core.Bool.{Bool, true, false}
 use mathlib.Core.List.{List, [], ◌∷◌}
@@ -13,7 +14,8 @@ use Rattle.laws.proofs.Picked.{on_true, on_false}
 use Rattle.fsm.specs.Starting.{start_tx_of}
 use Rattle.fsm.specs.Ticking.{ticked}
 use Rattle.fsm.specs.declared.DaliBitbangPhy.{DaliBitbangPhy}
-use Rattle.fsm.specs.declared.Started.{Started}
+use Rattle.fsm.specs.declared.StartError.{StartError}
+use Rattle.fsm.specs.declared.Answered.{Answered}
 use Rattle.fsm.specs.declared.Ticked.{Ticked}
 use Rattle.timed_ticks.specs.declared.Pass.{Pass}
 use Rattle.timed_ticks.specs.Ticks.{frame, starts_of, readied, level_of, one_more, pass_from, pass_of, summed, timed_from}
@@ -23,7 +25,7 @@ bit_small true = omega arith
 bit_small false = omega arith
 
 -- ---- the station that ticks: it was started, or it was left as it is
-pub started : (sends : Bool) (s : DaliBitbangPhy) {b : Bool} {x : Started} {r : DaliBitbangPhy} → b ≡ starts_of sends s → b ≡ true → x ≡ start_tx_of s frame → r ≡ x.station
+pub started : (sends : Bool) (s : DaliBitbangPhy) {b : Bool} {x : Answered (Result ⊤ StartError)} {r : DaliBitbangPhy} → b ≡ starts_of sends s → b ≡ true → x ≡ start_tx_of s frame → r ≡ x.station
     → r ≡ readied sends s
 unfolding readied
 started sends s eb e ex er = rw (er, ex, on_true (sym eb ∙ e))

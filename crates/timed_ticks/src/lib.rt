@@ -2,13 +2,13 @@
 // compares with the Rust's.
 #![tactic(auto)]
 
-ghost use Rattle.std.specs.Prelude.{◌≡◌, ◌+◌, ◌≤◌, ◌<◌, get_or};
+ghost use Rattle.std.specs.Prelude.{◌≡◌, ◌+◌, ◌≤◌, ◌<◌};
 ghost use Rattle.laws.specs.Bit.{bit};
 ghost use Rattle.fsm.specs.Station.{new_station};
 ghost use Rattle.fsm.specs.Ticking.{ticked};
 ghost use Rattle.timed_ticks.specs.Ticks.{starts_of, level_of, pass_of, summed, timed_from};
 
-use fsm::{DALI_RX_SAMPLE_BUF_LEN, DaliBitbangPhy};
+use fsm::{BusState, DaliBitbangPhy};
 use halfbits::HalfBitBuffer;
 
 const LEVELS: usize = 4_096;
@@ -25,33 +25,25 @@ struct Pass {
     highs: u32,
 }
 
+#[tactic(auto, unfolding(crate::specs::Ticks::starts_of, machine::specs::States::is_idle, laws::specs::Pick::pick))]
 fn starts(sends: bool, station: DaliBitbangPhy) -> bool
     ensures { result ≡ starts_of sends station }
 {
-    if sends {
-        let bus_state = station.bus_state();
-        return bus_state.is_idle();
-    }
-    false
+    sends && station.bus_state() == BusState::Idle
 }
 
+#[tactic(auto, unfolding(crate::specs::Ticks::level_of, laws::specs::Pick::pick))]
 fn level_of(sends: bool, driven_high: bool, level: u8) -> bool
     ensures { result ≡ level_of sends driven_high level }
 {
-    if sends {
-        return driven_high;
-    }
-    level != 0
+    if sends { driven_high } else { level != 0 }
 }
 
 fn counted(highs: u32, driven_high: bool) -> u32
     requires { highs < 4096 }
     ensures { result ≡ highs + bit driven_high }
 {
-    if driven_high {
-        return highs + 1;
-    }
-    highs
+    highs + u32::from(driven_high)
 }
 
 // Each tick takes the station that the one before it left.
@@ -59,43 +51,29 @@ fn one_pass(sends: bool, from: DaliBitbangPhy, levels: &[u8; LEVELS]) -> Pass
     ensures value { result ≡ pass_of sends from levels.now }
     ensures highs_bound { result.highs ≤ 4096 }
 {
-    let levels: &[u8] = levels;
     let mut station = from;
     let mut highs: u32 = 0;
-    let mut i: usize = 0;
-    while i < LEVELS {
-        let level = levels[i];
+    for level in levels {
         if starts(sends, station) {
-            let started = station.start_tx(FRAME);
-            station = started.station;
+            station = station.start_tx(FRAME).station;
         }
-        let ticked = station.tick(level_of(sends, station.driven_high(), level));
+        let ticked = station.tick(level_of(sends, station.driven_high(), *level));
         station = ticked.station;
         highs = counted(highs, ticked.driven_high);
-        i += 1;
     }
     Pass { station, highs }
 }
 
-fn byte_at(samples: [u8; DALI_RX_SAMPLE_BUF_LEN], at: usize) -> u8
-    requires { at < 64 }
-    ensures { result ≡ get_or samples at 0 }
-{
-    samples[at]
-}
-
+#[tactic(auto, unfolding(crate::specs::Ticks::summed, event::specs::Event::event_of))]
 fn sum_of(sum: u64, left: u32, pass: Pass) -> u64
     requires { pass.highs ≤ 4096 }
     ensures { result ≡ summed sum left pass }
 {
-    let station = pass.station;
-    let event = station.last_rx_event();
-    let samples = event.samples;
-    let at = (left % 64) as usize;
-    let highs = pass.highs as u64;
-    let idle = station.idle_tick_count() as u64;
-    let count = event.sample_count as u64;
-    let byte = byte_at(samples, at) as u64;
+    let event = pass.station.last_rx_event();
+    let highs = u64::from(pass.highs);
+    let idle = u64::from(pass.station.idle_tick_count());
+    let count = u64::from(event.sample_count);
+    let byte = u64::from(event.samples[(left % 64) as usize]);
     sum % 4_294_967_296 * 31 + (highs + idle + count * 3 + byte)
 }
 
@@ -121,6 +99,5 @@ pub extern "C" fn timed_ticks(levels: &[u8; LEVELS], passes: u32, sends: bool) -
 pub extern "C" fn first_level(bus_is_high: bool) -> bool
     ensures { result ≡ (ticked new_station bus_is_high).driven_high }
 {
-    let ticked = copied_tick::tick_lent(DaliBitbangPhy::new(), bus_is_high, true);
-    ticked.driven_high
+    copied_tick::tick_lent(DaliBitbangPhy::new(), bus_is_high, true).driven_high
 }
