@@ -94,7 +94,7 @@ fn level_left(stations: [DaliBitbangPhy; MAX_STATIONS], count: usize) -> bool
 fn is_count(count: u8) -> bool
     ensures { result ≡ is_count count }
 {
-    matches!(count, 1..=4)
+    count != 0 && (count as usize) <= MAX_STATIONS
 }
 
 impl BenchLine {

@@ -54,6 +54,12 @@ impl ByteString {
     }
 }
 
+impl fmt::Display for ByteString {
+    fn fmt<W: fmt::Write>(&self, f: &mut fmt::Formatter<W>) -> fmt::Result {
+        write!(f, "{}", Hex(self.as_slice()))
+    }
+}
+
 // Two digits for each byte, or `-` for no bytes.
 #[derive(Clone, Copy)]
 pub(crate) struct Hex<'a>(pub(crate) &'a [u8]);

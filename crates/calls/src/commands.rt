@@ -70,63 +70,67 @@ impl Command {
 
 // Each of the three functions reads the operands behind some words, and leaves the other words to the next.
 
-fn of_station(word: &[u8], o: &mut Operands) -> Option<Command> {
+fn of_station(word: &[u8], given: &mut Operands) -> Option<Command> {
     Some(match word {
         b"new" => Command::New,
-        b"policy" => Command::Policy(o.policy()?),
-        b"tick" => Command::Tick(o.level()?),
+        b"policy" => Command::Policy(given.policy()?),
+        b"tick" => Command::Tick(given.level()?),
         b"ticks" => {
-            let (levels, count) = o.levels()?;
+            let (levels, count) = given.levels()?;
             Command::Ticks(levels, count)
         }
-        b"start_tx" => Command::StartTx(o.halfbits()?),
-        b"start_answer" => Command::StartAnswer(o.halfbits()?),
+        b"start_tx" => Command::StartTx(given.halfbits()?),
+        b"start_answer" => Command::StartAnswer(given.halfbits()?),
         b"poll" => Command::Poll,
         b"take_idle" => Command::TakeIdle,
         b"take_rx" => Command::TakeRx,
         b"ack" => Command::Ack,
         b"state" => Command::State,
-        _ => return of_decoders(word, o),
+        _ => return of_decoders(word, given),
     })
 }
 
-fn of_decoders(word: &[u8], o: &mut Operands) -> Option<Command> {
+fn of_decoders(word: &[u8], given: &mut Operands) -> Option<Command> {
     Some(match word {
-        b"weight" => Command::Weight(o.hex_byte()?),
-        b"phase" => Command::Phase(o.byte()?, o.signed()?, o.window()?),
-        b"search" => Command::Search(o.search()?, o.window()?),
-        b"steps" => Command::Steps(o.search()?, o.byte_up_to(8)?, o.window()?),
-        b"bsnew" => Command::SearchNew(o.search()?),
-        b"bsstep" => Command::SearchStep(o.window()?),
-        b"bsrun" => Command::SearchRun(o.window()?),
-        b"sniff" => Command::Sniff(o.event()?),
-        b"sniffdec" => Command::Sniff(o.finished_event()?),
-        b"backward" => Command::Backward(o.event()?),
-        b"lowrun" => Command::LowRun(o.event()?),
-        b"held" => Command::Held(o.event()?),
-        b"encode" => Command::Encode(o.byte()?, o.three_hex_bytes()?),
-        b"encodebuf" => Command::EncodeInto(o.byte()?, o.three_hex_bytes()?, o.byte_string()?),
-        b"better" => Command::Better(o.lengths()?, o.place()?, o.place()?),
-        b"lengths" => Command::Lengths(o.byte_string()?, o.byte()?),
-        b"settle" => Command::Settle(o.short()?, o.byte()?),
-        b"gate" => Command::Gate(o.byte()?),
-        _ => return of_line(word, o),
+        b"weight" => Command::Weight(given.hex_byte()?),
+        b"phase" => Command::Phase(given.byte()?, given.signed()?, given.window()?),
+        b"search" => Command::Search(given.search()?, given.window()?),
+        b"steps" => Command::Steps(given.search()?, given.byte_up_to(8)?, given.window()?),
+        b"bsnew" => Command::SearchNew(given.search()?),
+        b"bsstep" => Command::SearchStep(given.window()?),
+        b"bsrun" => Command::SearchRun(given.window()?),
+        b"sniff" => Command::Sniff(given.event()?),
+        b"sniffdec" => Command::Sniff(given.finished_event()?),
+        b"backward" => Command::Backward(given.event()?),
+        b"lowrun" => Command::LowRun(given.event()?),
+        b"held" => Command::Held(given.event()?),
+        b"encode" => Command::Encode(given.byte()?, given.three_hex_bytes()?),
+        b"encodebuf" => Command::EncodeInto(
+            given.byte()?,
+            given.three_hex_bytes()?,
+            given.byte_string()?,
+        ),
+        b"better" => Command::Better(given.lengths()?, given.place()?, given.place()?),
+        b"lengths" => Command::Lengths(given.byte_string()?, given.byte()?),
+        b"settle" => Command::Settle(given.short()?, given.byte()?),
+        b"gate" => Command::Gate(given.byte()?),
+        _ => return of_line(word, given),
     })
 }
 
-fn of_line(word: &[u8], o: &mut Operands) -> Option<Command> {
+fn of_line(word: &[u8], given: &mut Operands) -> Option<Command> {
     Some(match word {
-        b"line" => Command::Line(o.byte()?),
-        b"lticks" => Command::LineTicks(o.ticks()?),
+        b"line" => Command::Line(given.byte()?),
+        b"lticks" => Command::LineTicks(given.ticks()?),
         b"llevel" => Command::LineLevel,
-        b"lpolicy" => Command::LinePolicy(o.byte()?, o.policy()?),
-        b"lstart_tx" => Command::LineStartTx(o.byte()?, o.halfbits()?),
-        b"lstart_answer" => Command::LineStartAnswer(o.byte()?, o.halfbits()?),
-        b"lpoll" => Command::LinePoll(o.byte()?),
-        b"ltake_idle" => Command::LineTakeIdle(o.byte()?),
-        b"ltake_rx" => Command::LineTakeRx(o.byte()?),
-        b"lack" => Command::LineAck(o.byte()?),
-        b"lstate" => Command::LineState(o.byte()?),
+        b"lpolicy" => Command::LinePolicy(given.byte()?, given.policy()?),
+        b"lstart_tx" => Command::LineStartTx(given.byte()?, given.halfbits()?),
+        b"lstart_answer" => Command::LineStartAnswer(given.byte()?, given.halfbits()?),
+        b"lpoll" => Command::LinePoll(given.byte()?),
+        b"ltake_idle" => Command::LineTakeIdle(given.byte()?),
+        b"ltake_rx" => Command::LineTakeRx(given.byte()?),
+        b"lack" => Command::LineAck(given.byte()?),
+        b"lstate" => Command::LineState(given.byte()?),
         _ => return None,
     })
 }

@@ -111,10 +111,7 @@ impl<'a> Operands<'a> {
             return Some(ByteString::EMPTY);
         }
         let len = field.len() / 2;
-        if len == 0 {
-            return None;
-        }
-        if BYTES_ROOM < len {
+        if len == 0 || BYTES_ROOM < len {
             return None;
         }
         let mut held = [0; BYTES_ROOM];

@@ -72,28 +72,34 @@ impl fmt::Display for Reply {
             Reply::Flag(flag) => write!(f, "{}", flag as u8),
             Reply::Driven(high) => write!(f, "d {}", high as u8),
             Reply::Level(high) => write!(f, "l {}", high as u8),
-            Reply::DrivenWave(levels) => write!(f, "d {}", Hex(levels.as_slice())),
-            Reply::LevelWave(levels) => write!(f, "l {}", Hex(levels.as_slice())),
+            Reply::DrivenWave(levels) => write!(f, "d {levels}"),
+            Reply::LevelWave(levels) => write!(f, "l {levels}"),
             Reply::Poll(result) => write!(f, "{}", Shown(result)),
             Reply::Event(None) => write!(f, "none"),
             Reply::Event(Some(event)) => write!(f, "event {}", Shown(event)),
             Reply::State(station) => write!(f, "state {}", Shown(station)),
             Reply::Phase(decode) => write!(f, "phase {}", Shown(decode)),
             Reply::Run(run) => write!(f, "{}", Shown(run)),
-            Reply::Step(step) => write!(f, "{}{}", found_word(step), Shown(step)),
+            Reply::Step(
+                PhaseSearch::Done(
+                    SearchAnswer {
+                        found: Some(decode),
+                        ..
+                    },
+                ),
+            ) => write!(f, "found {}", Shown(decode)),
+            Reply::Step(step) => write!(f, "{}", Shown(step)),
             Reply::Steps(search, count, window) => steps(f, search, count, window),
             Reply::Sniffed(decode) => write!(f, "{}", Shown(decode)),
             Reply::Backward(Some(byte)) => write!(f, "byte {byte:02x}"),
             Reply::Backward(None) => write!(f, "none"),
             Reply::Encoded(buffer) => write!(f, "{} {}", buffer.length, Hex(&buffer.data)),
-            Reply::EncodedInto(Ok(length), buffer) => write!(
+            Reply::EncodedInto(Ok(length), buffer) => write!(f, "{length} {buffer}"),
+            Reply::EncodedInto(Err(error), buffer) => write!(
                 f,
-                "{length} {}",
-                Hex(buffer.as_slice())
+                "{} {buffer}",
+                Refusal::from(error)
             ),
-            Reply::EncodedInto(Err(error), buffer) => {
-                write!(f, "{} {}", Refusal::from(error), Hex(buffer.as_slice()))
-            }
         }
     }
 }
@@ -237,13 +243,6 @@ impl fmt::Display for Shown<SniffedDecode> {
             SniffedFrame::DecodeFailed => write!(f, "FAIL -")?,
         }
         write!(f, " {} {}", decode.phase_ticks, decode.score)
-    }
-}
-
-fn found_word(step: PhaseSearch) -> &'static str {
-    match step {
-        PhaseSearch::Done(SearchAnswer { found: Some(_), .. }) => "found ",
-        _ => "",
     }
 }
 

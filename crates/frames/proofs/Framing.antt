@@ -13,7 +13,7 @@ use Rattle.lengths.specs.Lengths.{with_length, with_lengths, set_of, holds, snif
 use Rattle.window.specs.declared.PhaseDecode.{PhaseDecode}
 use Rattle.window.specs.Phase.{weighed, decode_of}
 use Rattle.search.specs.declared.SearchAnswer.{SearchAnswer}
-use Rattle.std.specs.Prelude.{Option, Some, None}
+use Rattle.std.specs.Prelude.{Option, Some}
 use Rattle.event.specs.declared.IsrDecode.TheVariants.{NotDecoded}
 use Rattle.event.specs.declared.RxCompletedEvent.{RxCompletedEvent}
 use Rattle.event.specs.Event.{event_of, new_event}

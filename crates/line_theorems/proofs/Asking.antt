@@ -1,5 +1,4 @@
 -- Calls that start nothing, and what they leave as it was. Assumes nothing.
-use Rattle.std.specs.Prelude.{⊤, Result, Option}
 use Prim.Native.Nat.{ℕ, suc, ◌-◌, ◌<◌}
 use native.Mathlib.Omega.{arith}
 use native.Mathlib.Decide.{ℕ_discrete}
@@ -10,7 +9,6 @@ use mathlib.Core.Path.{◌≡◌, refl, sym, ◌∙◌, ap, subst}
 use lib.Dec.{eqb}
 use lib.Seq.{get_or-set_same, get_or-set_other}
 use borrow.Author.Tests.{lt-ltb}
-use Rattle.laws.specs.Pick.{pick}
 use Rattle.laws.proofs.Picked.{on_true, cases}
 use Rattle.machine.specs.declared.Bus.{Bus}
 use Rattle.machine.specs.declared.Runs.{Runs}
@@ -22,8 +20,6 @@ use Rattle.fsm.specs.Ticking.{tick_of}
 use Rattle.machine.specs.States.{hears, is_tx}
 use Rattle.fsm.specs.Polling.{polled}
 use Rattle.fsm.specs.Calls.{with_policy, took_idle, has_event, acknowledged, took_rx}
-use Rattle.fsm.specs.declared.StartError.{StartError}
-use Rattle.event.specs.declared.RxCompletedEvent.{RxCompletedEvent}
 use Rattle.bench_line.specs.declared.BenchLine.{BenchLine}
 use Rattle.bench_line.specs.declared.LineAnswered.{LineAnswered}
 use Rattle.bench_line.specs.Line.{stations_on, is_on, station_at, with_station, line_ticked}
@@ -112,39 +108,43 @@ line_call n station.take_rx = take_rx n
 line_call n station.acknowledge = acknowledge n
 line_call n (station.policy p) = policy n p
 
+answered_count : {A : Type 0} (l : BenchLine) (number : ℕ) (r : Answered A) → (answered_at l number r).line.count ≡ l.count
+unfolding answered_at
+answered_count {A} l number r = cases (λ (x : LineAnswered A). x.line.count ≡ l.count) (is_on l number) (λ _. refl) (λ _. refl)
+
 pub count_kept : (l : BenchLine) (c : LineCall) → (line_after c l).count ≡ l.count
-unfolding line_after line_ticked answered_at
+unfolding line_after line_ticked
 count_kept l tick = refl
-count_kept l (start_tx number hb) = cases (λ (r : LineAnswered (Result ⊤ StartError)). r.line.count ≡ l.count) (is_on l number) (λ _. refl) (λ _. refl)
-count_kept l (start_answer number hb) = cases (λ (r : LineAnswered (Result ⊤ StartError)). r.line.count ≡ l.count) (is_on l number) (λ _. refl) (λ _. refl)
-count_kept l (poll number) = cases (λ (r : LineAnswered TxPollResult). r.line.count ≡ l.count) (is_on l number) (λ _. refl) (λ _. refl)
-count_kept l (take_idle number) = cases (λ (r : LineAnswered Bool). r.line.count ≡ l.count) (is_on l number) (λ _. refl) (λ _. refl)
-count_kept l (take_rx number) = cases (λ (r : LineAnswered (Option RxCompletedEvent)). r.line.count ≡ l.count) (is_on l number) (λ _. refl) (λ _. refl)
-count_kept l (acknowledge number) = cases (λ (r : LineAnswered ⊤). r.line.count ≡ l.count) (is_on l number) (λ _. refl) (λ _. refl)
-count_kept l (policy number p) = cases (λ (r : LineAnswered ⊤). r.line.count ≡ l.count) (is_on l number) (λ _. refl) (λ _. refl)
+count_kept l (start_tx number hb) = answered_count l number _
+count_kept l (start_answer number hb) = answered_count l number _
+count_kept l (poll number) = answered_count l number _
+count_kept l (take_idle number) = answered_count l number _
+count_kept l (take_rx number) = answered_count l number _
+count_kept l (acknowledge number) = answered_count l number _
+count_kept l (policy number p) = answered_count l number _
 
 module _ (l : BenchLine) (reached : ReachedLine l) (n : ℕ) (on : n < stations_on l) (P : DaliBitbangPhy → Type 0) (before : P (station_at l n)) where
-  at : {A : Type 0} (line : A → BenchLine) (number : ℕ) (s : DaliBitbangPhy) {made refused : A} → line made ≡ with_station l number s → line refused ≡ l
-      → (number ≡ n → P s) → P (station_at (line (pick (is_on l number) made refused)) n)
-  at line number s with_it without own =
-      cases (λ r. P (station_at (line r) n)) (is_on l number) (λ _. rw with_it (go (ℕ_discrete number n))) (λ _. rw without before)
+  at : {A : Type 0} (number : ℕ) (r : Answered A) → (number ≡ n → P r.station) → P (station_at (answered_at l number r).line n)
+  unfolding answered_at
+  at {A} number r own =
+      cases (λ (x : LineAnswered A). P (station_at x.line n)) (is_on l number) (λ _. go (ℕ_discrete number n)) (λ _. before)
     where
-      go : Dec (number ≡ n) → P (station_at (with_station l number s) n)
-      go (yes e) = rw (e, get_or-set_same l.stations n s new_station (omega (arith, (line_invariants l reached).places, on))) (own e)
-      go (no apart) = rw (get_or-set_other l.stations number n s new_station (λ e. apart (sym e))) before
+      go : Dec (number ≡ n) → P (station_at (with_station l number r.station) n)
+      go (yes e) = rw (e, get_or-set_same l.stations n r.station new_station (omega (arith, (line_invariants l reached).places, on))) (own e)
+      go (no apart) = rw (get_or-set_other l.stations number n r.station new_station (λ e. apart (sym e))) before
 
   -- What is so of a station stays so, if it does where the line ticks, and where the station itself is called.
   pub stays : (c : LineCall) → starts_nothing c ≡ true → (c ≡ tick → P (tick_of (station_at l n) l.level))
       → ((k : Call) → is_between k ≡ true → c ≡ line_call n k → P (after k (station_at l n))) → P (station_at (line_after c l) n)
-  unfolding line_after starts_nothing is_between after answered_at
+  unfolding line_after starts_nothing is_between after
   stays tick e ticks own = rw (tick_at l (line_invariants l reached).places n on) (ticks refl)
   stays (start_tx number hb) e ticks own = absurd (false≢true e)
   stays (start_answer number hb) e ticks own = absurd (false≢true e)
-  stays (poll number) e ticks own = at (λ (r : LineAnswered TxPollResult). r.line) number _ refl refl (λ same. rw same (own station.poll refl (ap poll same)))
-  stays (take_idle number) e ticks own = at (λ (r : LineAnswered Bool). r.line) number _ refl refl (λ same. rw same (own station.take_idle refl (ap take_idle same)))
-  stays (take_rx number) e ticks own = at (λ (r : LineAnswered (Option RxCompletedEvent)). r.line) number _ refl refl (λ same. rw same (own station.take_rx refl (ap take_rx same)))
-  stays (acknowledge number) e ticks own = at (λ (r : LineAnswered ⊤). r.line) number _ refl refl (λ same. rw same (own station.acknowledge refl (ap acknowledge same)))
-  stays (policy number p) e ticks own = at (λ (r : LineAnswered ⊤). r.line) number _ refl refl (λ same. rw same (own (station.policy p) refl (ap (λ m. policy m p) same)))
+  stays (poll number) e ticks own = at number _ (λ same. rw same (own station.poll refl (ap poll same)))
+  stays (take_idle number) e ticks own = at number _ (λ same. rw same (own station.take_idle refl (ap take_idle same)))
+  stays (take_rx number) e ticks own = at number _ (λ same. rw same (own station.take_rx refl (ap take_rx same)))
+  stays (acknowledge number) e ticks own = at number _ (λ same. rw same (own station.acknowledge refl (ap acknowledge same)))
+  stays (policy number p) e ticks own = at number _ (λ same. rw same (own (station.policy p) refl (ap (λ m. policy m p) same)))
 
 -- the station that is called
 module _ (l : BenchLine) (reached : ReachedLine l) (n : ℕ) (on : n < stations_on l) where

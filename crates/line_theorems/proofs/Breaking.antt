@@ -8,9 +8,9 @@ use mathlib.Core.List.{List}
 use mathlib.Core.Path.{◌≡◌, refl, sym, ◌∙◌, ap, subst}
 use lib.Dec.{eqb, ltb}
 use lib.ListN.{length}
-use borrow.Author.Tests.{lt-leb, eq-eqb}
+use borrow.Author.Tests.{lt-leb}
 use Rattle.laws.specs.Pick.{pick}
-use Rattle.laws.proofs.Picked.{on_true, on_false, cases}
+use Rattle.laws.proofs.Picked.{on_true, on_false}
 use Rattle.halfbits.specs.Wave.{high, low, level_at}
 use Rattle.halfbits.specs.HalfBits.{half_bits_of}
 use Rattle.machine.specs.declared.CollisionPolicy.{CollisionPolicy}

@@ -1,5 +1,5 @@
 -- What every call keeps of a line, and what a tick does to one place of it. Assumes nothing.
-use Rattle.std.specs.Prelude.{Result, ⊤, Option}
+use Rattle.std.specs.Prelude.{Result, ⊤}
 use Prim.Native.Nat.{ℕ, zero, suc, ◌≤◌, ◌<◌}
 use native.Mathlib.Omega.{arith}
 use native.Mathlib.Decide.{ℕ_discrete}
@@ -25,8 +25,6 @@ use Rattle.fsm.specs.Starting.{length_fits, started_with, loaded_with, started, 
 use Rattle.machine.specs.States.{is_idle, hears}
 use Rattle.station_theorems.specs.Calls as station
 use Rattle.station_theorems.specs.Calls.{Call, after, Reached}
-use Rattle.fsm.specs.declared.TxPollResult.{TxPollResult}
-use Rattle.event.specs.declared.RxCompletedEvent.{RxCompletedEvent}
 use Rattle.bench_line.specs.declared.BenchLine.{BenchLine}
 use Rattle.bench_line.specs.declared.LineAnswered.{LineAnswered}
 use Rattle.bench_line.specs.Line.{stations_on, is_on, station_at, with_station, new_line_of, all_ticked, level_left, line_ticked}
@@ -154,25 +152,25 @@ module _ (l : BenchLine) (h : LineHolds l) where
       go other within (no apart) = rw (get_or-set_other l.stations number other s new_station apart) (h.reached other within)
 
   -- What is no tick is a call of one station, which replaces it; where it is none of the line's, the line stays as it was.
-  at : {A : Type 0} (line : A → BenchLine) (number : ℕ) (c : Call) → is_tick c ≡ false → {called refused : A}
-      → line called ≡ with_station l number (after c (station_at l number)) → line refused ≡ l → LineHolds (line (pick (is_on l number) called refused))
-  at line number c e with_it without =
-      cases (λ r. LineHolds (line r)) (is_on l number)
+  at : {A : Type 0} (number : ℕ) (r : Answered A) (c : Call) → is_tick c ≡ false → r.station ≡ after c (station_at l number) → LineHolds (answered_at l number r).line
+  unfolding answered_at
+  at {A} number r c e as_called =
+      cases (λ (x : LineAnswered A). LineHolds x.line) (is_on l number)
       (λ on.
       let within : number < stations_on l = ltb-true _ _ on in
-      rw with_it (with_holds number within _ (station.called c (h.reached number within)) (drives_as_before (station_at l number) c e)))
-      (λ _. rw without h)
+      rw as_called (with_holds number within _ (station.called c (h.reached number within)) (drives_as_before (station_at l number) c e)))
+      (λ _. h)
 
   call_holds : (c : LineCall) → LineHolds (line_after c l)
-  unfolding line_after after answered_at
+  unfolding line_after after
   call_holds tick = tick_holds
-  call_holds (start_tx number hb) = at (λ (r : LineAnswered (Result ⊤ StartError)). r.line) number (station.start_tx hb) refl refl refl
-  call_holds (start_answer number hb) = at (λ (r : LineAnswered (Result ⊤ StartError)). r.line) number (station.start_answer hb) refl refl refl
-  call_holds (poll number) = at (λ (r : LineAnswered TxPollResult). r.line) number station.poll refl refl refl
-  call_holds (take_idle number) = at (λ (r : LineAnswered Bool). r.line) number station.take_idle refl refl refl
-  call_holds (take_rx number) = at (λ (r : LineAnswered (Option RxCompletedEvent)). r.line) number station.take_rx refl refl refl
-  call_holds (acknowledge number) = at (λ (r : LineAnswered ⊤). r.line) number station.acknowledge refl refl refl
-  call_holds (policy number p) = at (λ (r : LineAnswered ⊤). r.line) number (station.policy p) refl refl refl
+  call_holds (start_tx number hb) = at number _ (station.start_tx hb) refl refl
+  call_holds (start_answer number hb) = at number _ (station.start_answer hb) refl refl
+  call_holds (poll number) = at number _ station.poll refl refl
+  call_holds (take_idle number) = at number _ station.take_idle refl refl
+  call_holds (take_rx number) = at number _ station.take_rx refl refl
+  call_holds (acknowledge number) = at number _ station.acknowledge refl refl
+  call_holds (policy number p) = at number _ (station.policy p) refl refl
 
 -- ---- from a new line on
 pub line_invariants : LineInvariants

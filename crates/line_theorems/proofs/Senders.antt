@@ -14,7 +14,7 @@ use Rattle.bench_line.specs.Line.{stations_on, station_at, new_line_of}
 use Rattle.bench_line.specs.Refusals.{is_count}
 use Rattle.station_theorems.specs.Ticks.{IsIdle}
 use Rattle.frames.specs.Sends.{Start}
-use Rattle.line_theorems.specs.Reached.{policy, ReachedLine, new_line}
+use Rattle.line_theorems.specs.Reached.{ReachedLine, new_line}
 use Rattle.line_theorems.specs.OnLine.{AllIdle, Sender, IsSender}
 use Rattle.line_theorems.specs.TwoSenders.{Watches}
 

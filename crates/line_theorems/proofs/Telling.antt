@@ -21,7 +21,7 @@ use Rattle.fsm.specs.declared.DaliBitbangPhy.{DaliBitbangPhy}
 use Rattle.fsm.specs.declared.Answered.{Answered}
 use Rattle.fsm.specs.declared.TxPollResult.{TxPollResult}
 use Rattle.fsm.specs.declared.TxPollResult.TheVariants.{Ok, Collision}
-use Rattle.machine.specs.States.{hears, is_tx, is_completed}
+use Rattle.machine.specs.States.{hears, is_tx}
 use Rattle.fsm.specs.Ticking.{tick_in, tick_of}
 use Rattle.fsm.specs.Polling.{polled}
 use Rattle.fsm.specs.Calls.{took_idle, took_rx}

@@ -1,5 +1,5 @@
 -- Document 01, "Bench line" (demand 3): senders and listeners on one line, and what they tell. Assumes nothing.
-use Rattle.std.specs.Prelude.{ℕ, zero, suc, ◌+◌, ◌≤◌, ◌<◌, Bool, true, List, [], ◌∷◌, ◌≡◌, Option, Some, Result, Ok, ⊤}
+use Rattle.std.specs.Prelude.{ℕ, zero, suc, ◌+◌, ◌≤◌, ◌<◌, Bool, true, List, [], ◌∷◌, ◌≡◌, Some, Result, Ok, ⊤}
 use Rattle.halfbits.specs.declared.HalfBitBuffer.{HalfBitBuffer}
 use Rattle.halfbits.specs.Frame.{Frame, bytes_of, AreBytes}
 use Rattle.halfbits.specs.Encoding.{is_bit_count, frame_of, encoded_of}

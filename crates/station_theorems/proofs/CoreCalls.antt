@@ -8,7 +8,6 @@ use Rattle.machine.specs.declared.BusState.TheVariants as bus
 use Rattle.machine.specs.declared.Core.{Core}
 use Rattle.machine.specs.declared.RxState.TheVariants.{Empty, Completed}
 use Rattle.machine.specs.Fields.{with_rx_state, with_tx_collision, with_tx_idle_after_break, with_tx_yielded}
-use Rattle.machine.specs.Idle.{fell}
 use Rattle.machine.specs.Sending.{yielded}
 use Rattle.machine.specs.Starting.{loaded}
 use Rattle.station_theorems.specs.Invariants.{is_receiving}

@@ -10,8 +10,6 @@ use Rattle.machine.specs.declared.Rx.{Rx}
 use Rattle.machine.specs.declared.RxState.{RxState}
 use Rattle.machine.specs.declared.Told.{Told}
 use Rattle.machine.specs.declared.Core.{Core}
-use Rattle.machine.specs.Idle.{fell}
-use Rattle.machine.specs.Sending.{yielded}
 use Rattle.station_theorems.specs.Invariants.{is_receiving}
 
 -- ---- in any state
