@@ -5,12 +5,12 @@ ghost use Rattle.std.specs.Prelude.{◌≡◌, ◌<◌, ◌≤◌};
 ghost use Rattle.std.specs.Int.Signed.{mag};
 ghost use Rattle.weight.specs.Weight.{bit_weight, half_weight, weight_of};
 
-// A set bit counts plus its weight, a clear one minus its weight. Bit 0 is the last tick. The sign is a factor, since with an `if` here the decoder
-// takes a third longer.
+// A set bit counts plus its weight, a clear one minus its weight. Bit 0 is the last tick.
 fn bit_weight(sample: u8, bit: u8, weight: i16) -> i16
     requires { (bit < 8) × (mag weight < 32767) }
     ensures { result ≡ bit_weight sample bit weight }
 {
+    // The sign is multiplied: with an `if` in its place a decode takes a third longer.
     let set = ((sample >> bit) % 2) as i16;
     let sign = 2 * set - 1;
     sign * weight
