@@ -313,6 +313,7 @@ impl DaliBitbangPhy {
         self.finish_rx_and_notify(end_rx(core, rx), with_end(rx_data, rx))
     }
 
+    #[tactic(auto, using(crate::proofs::Ticks::acted))]
     pub fn tick(self, bus_is_high: bool) -> Ticked
         ensures { result ≡ ticked self bus_is_high }
     {
