@@ -49,7 +49,7 @@ enum Next {
     Failed,
 }
 
-// A run so far: the number of its reads, the reader after them, and how it goes on. The contracts say what led to it (`Ran`), and no ghost field does,
+// A run so far: the number of its reads, the reader after them, and how it goes on. The contracts say what led to it (`Ran`), and no ghost field,
 // since such a field holds only a fact that has one proof: this one has many, as it tells all that came.
 #[derive(Clone, Copy)]
 struct Run {
