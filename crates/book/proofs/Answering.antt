@@ -75,3 +75,5 @@ module _ (n : ℕ) (capture : Capture) (reading : Reading) (place : ℕ) (before
       → buffer_after row_max (row_text (n + 1) capture reading) place before ≡ sets before place (answer_as (suc n) (Ok capture))
   unfolding answer_as
   row_left is h = rw (is, add-one n) (buffer_fits row_max (row_text (suc n) capture (reading_of capture)) place before h)
+
+pub ruleset row_laws = (row_decoded, row_undecoded, row_past, row_left)

@@ -190,7 +190,7 @@ fn answer_refused(counts: Counts, refusal: Refusal, out: &mut [u8], at: usize) -
     }
 }
 
-#[tactic(auto, using(crate::proofs::Answering::row_decoded, crate::proofs::Answering::row_undecoded, crate::proofs::Answering::row_past, crate::proofs::Answering::row_left))]
+#[tactic(auto, using(crate::proofs::Answering::row_laws))]
 fn answer_capture(counts: Counts, capture: Capture, out: &mut [u8], at: usize) -> Ended
     requires lines_lt_lines_max { counts.lines < lines_max }
     requires row_max_in_bounds { at + row_max ≤ length out.old }

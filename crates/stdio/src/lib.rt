@@ -1,7 +1,7 @@
 // Standard input, standard output and standard error. No promise can say what a file holds. So each call hands out a mark, which no proof can make by
 // itself: `Came` of what a read reported, `Went` of a text to be written, `Complained` of a message. A program that promises something of its input
-// and output can keep the promise only by making these calls. They take the runtime of the process and no bound, under which a stand-in could be passed:
-// so the calls that leave the marks reach the outside.
+// and output can keep the promise only by making these calls. They take the runtime of the process and no bound, under which a stand-in could be
+// passed: so the calls that leave the marks reach the outside.
 #![tactic(auto)]
 
 ghost use Rattle.std.specs.Prelude.{◌≡◌, length};

@@ -73,10 +73,8 @@ fn put_digits(out: &mut [u8], at: usize, count: usize, number: u32) -> usize
     if !writing::has_room(out.len(), at, count) {
         return at;
     }
-    let mut i = count;
     let mut rest = number;
-    while 0 < i {
-        i -= 1;
+    for i in (0..count).rev() {
         out[at + i] = b'0' + (rest % 10) as u8;
         rest /= 10;
     }

@@ -109,10 +109,8 @@ pub fn put_hex_digits(out: &mut [u8], at: usize, number: u64, width: usize) -> u
     if !writing::has_room(out.len(), at, width) {
         return at;
     }
-    let mut i = width;
     let mut rest = number;
-    while 0 < i {
-        i -= 1;
+    for i in (0..width).rev() {
         out[at + i] = hex_digit((rest % 16) as u8);
         rest /= 16;
     }

@@ -1,9 +1,9 @@
 -- `text::decimals::put_digits` meets its contract. Assumes nothing.
 use mathlib.Core.Path.{refl}
 use native.Mathlib.Omega.{arith}
-use lib.ListN.{length, length-set}
+use lib.ListN.{length}
 use Rattle.text.specs.Code.{digits}
-use Rattle.text.proofs.WritingLaws.{enough, too_little, unwritten, written, put_of}
+use Rattle.text.proofs.WritingLaws.{too_little, unwritten, written, put_of}
 use Rattle.text.proofs.Digits.{stored_on, stored_end}
 use Rattle.text.proofs.DecimalDigits.{last_digits, length_digits}
 use Rattle.text.proofs.decimals.put_digits.Goals as goal
@@ -15,15 +15,10 @@ returns-then-not-has_room c =
     let over = too_little a.count a.at a.out.now c.has_room.ensures c.if-not-has_room.true in
     put_of text a.at a.out.now (unwritten (length text) text a.at a.out.now (rw (length_digits a.count a.number) over))
 
-pub loop-i-init : goal.loop-i-init
-loop-i-init c =
-    let a = c.args in
-    (enough a.count a.at a.out.now c.has_room.ensures c.if-not-has_room.false, omega arith, refl, refl)
-
 pub loop-i-preserved : goal.loop-i-preserved
 loop-i-preserved c =
     let at = c.loop-i in
-    (at.invariant.0, omega arith, simp length-set at.invariant.2, stored_on last_digits at.out _ _ at.i at.rest c.loop-i-test.true refl at.invariant.3)
+    record { room = at.invariant.room; left = stored_on last_digits at.out _ _ at.i at.rest c.loop-i-test.true refl at.invariant.left }
 
 pub returns : goal.returns
 returns c =
@@ -33,4 +28,4 @@ returns c =
     let at = c.loop-i in
     put_of text a.at a.out.now
     (written (length text) text a.at a.out.now (omega arith)
-    (omega arith, stored_end last_digits at.out _ a.at at.i at.rest c.loop-i-test.false at.invariant.3))
+    (omega arith, stored_end last_digits at.out _ a.at at.i at.rest c.loop-i-test.false at.invariant.left))

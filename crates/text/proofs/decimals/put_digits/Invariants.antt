@@ -8,7 +8,7 @@ use Rattle.text.proofs.decimals.put_digits.Given as goal
 
 abbrev pub invariant-loop-i : goal.invariant-loop-i
 invariant-loop-i l =
-    (l.at + l.count ≤ length l.initial.out) × (l.i ≤ l.count) × (length l.out ≡ length l.initial.out) × (sets l.out l.at (digits l.i l.rest) ≡ sets l.initial.out l.at (digits l.count l.number))
-
-abbrev pub decreases-loop-i : goal.decreases-loop-i
-decreases-loop-i l = l.i
+    record {
+      room : l.at + l.count ≤ length l.initial.out;
+      left : sets l.out l.at (digits l.i l.rest) ≡ sets l.initial.out l.at (digits l.count l.number);
+    }

@@ -1,9 +1,8 @@
 -- `text::hex::put_hex_digits` meets its contract. Assumes nothing.
-use mathlib.Core.Path.{refl}
 use native.Mathlib.Omega.{arith}
-use lib.ListN.{length, length-set}
+use lib.ListN.{length}
 use Rattle.text.specs.Hex.{hex_digits_of}
-use Rattle.text.proofs.WritingLaws.{enough, too_little, unwritten, written}
+use Rattle.text.proofs.WritingLaws.{too_little, unwritten, written}
 use Rattle.text.proofs.Digits.{stored_on, stored_end}
 use Rattle.text.proofs.HexLaws.{last_hexes, length_hex_digits}
 use Rattle.text.proofs.hex.put_hex_digits.Goals as goal
@@ -16,15 +15,10 @@ returns-then-not-has_room c =
     let none = unwritten (length text) text a.at a.out.now (rw (length_hex_digits a.width a.number) over) in
     record { value = none.0; out_after = none.1 }
 
-pub loop-i-init : goal.loop-i-init
-loop-i-init c =
-    let a = c.args in
-    (enough a.width a.at a.out.now c.has_room.ensures c.if-not-has_room.false, omega arith, refl, refl)
-
 pub loop-i-preserved : goal.loop-i-preserved
 loop-i-preserved c =
     let at = c.loop-i in
-    (at.invariant.0, omega arith, simp length-set at.invariant.2, stored_on last_hexes at.out _ _ at.i at.rest c.loop-i-test.true c.hex_digit.ensures at.invariant.3)
+    record { room = at.invariant.room; left = stored_on last_hexes at.out _ _ at.i at.rest c.loop-i-test.true c.hex_digit.ensures at.invariant.left }
 
 pub returns : goal.returns
 returns c =
@@ -33,5 +27,5 @@ returns c =
     let long = length_hex_digits a.width a.number in
     let at = c.loop-i in
     let put = written (length text) text a.at a.out.now (omega arith)
-    (omega arith, stored_end last_hexes at.out _ a.at at.i at.rest c.loop-i-test.false at.invariant.3)
+    (omega arith, stored_end last_hexes at.out _ a.at at.i at.rest c.loop-i-test.false at.invariant.left)
     in record { value = put.0; out_after = put.1 }

@@ -8,7 +8,7 @@ use Rattle.text.proofs.hex.put_hex_digits.Given as goal
 
 abbrev pub invariant-loop-i : goal.invariant-loop-i
 invariant-loop-i l =
-    (l.at + l.width ≤ length l.initial.out) × (l.i ≤ l.width) × (length l.out ≡ length l.initial.out) × (sets l.out l.at (hex_digits_of l.i l.rest) ≡ sets l.initial.out l.at (hex_digits_of l.width l.number))
-
-abbrev pub decreases-loop-i : goal.decreases-loop-i
-decreases-loop-i l = l.i
+    record {
+      room : l.at + l.width ≤ length l.initial.out;
+      left : sets l.out l.at (hex_digits_of l.i l.rest) ≡ sets l.initial.out l.at (hex_digits_of l.width l.number);
+    }
