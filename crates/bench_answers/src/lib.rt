@@ -57,9 +57,8 @@ pub fn put_row(out: &mut [u8], at: usize, number: u32, capture: Capture, reading
         return at;
     }
     let decode = reading.decode;
-    let frame = decode.frame;
     let at = put_field(out, at, number, b'\t');
-    let at = put_frame(out, at, frame);
+    let at = put_frame(out, at, decode.frame);
     let at = writing::put_byte(out, at, b'\t');
     let at = signed::put_signed(out, at, decode.phase_ticks);
     let at = writing::put_byte(out, at, b'\t');
@@ -111,21 +110,16 @@ fn put_frame(out: &mut [u8], at: usize, frame: SniffedFrame) -> usize
 {
     match frame {
         SniffedFrame::Forward16(bits) => {
-            let top = (bits / 256) as u8;
-            let low = (bits % 256) as u8;
-            let bytes = [top, low];
             let at = writing::put_text(out, at, b"F16\t");
-            hex::put_hex(out, at, &bytes)
+            hex::put_hex(out, at, &bits.to_be_bytes())
         }
         SniffedFrame::Backward8(byte) => {
-            let bytes = [byte];
             let at = writing::put_text(out, at, b"B8\t");
-            hex::put_hex(out, at, &bytes)
+            hex::put_hex(out, at, &[byte])
         }
         SniffedFrame::Forward24(first, second, third) => {
-            let bytes = [first, second, third];
             let at = writing::put_text(out, at, b"F24\t");
-            hex::put_hex(out, at, &bytes)
+            hex::put_hex(out, at, &[first, second, third])
         }
         SniffedFrame::UnsupportedLength(bits) => {
             let at = writing::put_text(out, at, b"LEN\t");

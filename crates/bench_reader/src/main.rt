@@ -49,7 +49,8 @@ enum Next {
     Failed,
 }
 
-// A run so far: the number of its reads, the reader after them, and how it goes on.
+// A run so far: the number of its reads, the reader after them, and how it goes on. The contracts say what led to it (`Ran`), and no ghost field does,
+// since such a field holds only a fact that has one proof: this one has many, as it tells all that came.
 #[derive(Clone, Copy)]
 struct Run {
     reads: u64,
@@ -101,7 +102,7 @@ fn turn(rt: HostRuntime, run: Run, chunk: &mut Chunk, out: &mut Answers) -> Run
     requires reads_lt_reads_max { run.reads < reads_max }
     requires ran { Ran run.reads run.reader More }
     ensures reads_value { result.reads ≡ run.reads + 1 }
-    ensures ran_2 { Ran result.reads result.reader result.next }
+    ensures ran_on { Ran result.reads result.reader result.next }
 {
     let reads = run.reads + 1;
     match stdio::read_chunk(rt, run.reads, chunk) {
@@ -132,7 +133,7 @@ fn take_in(rt: HostRuntime, run: Run, chunk: &Chunk, count: usize, out: &mut Ans
     requires within { Within (length chunk.now) (Bytes count) }
     requires came { Came run.reads chunk.now (Bytes count) }
     ensures reads_value { result.reads ≡ run.reads + 1 }
-    ensures ran_2 { Ran result.reads result.reader result.next }
+    ensures ran_on { Ran result.reads result.reader result.next }
 {
     let fed = run.reader.feed(&chunk[..count], out);
     let end = fed.said.unwrap_or(0);

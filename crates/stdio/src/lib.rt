@@ -22,14 +22,11 @@ pub fn read_chunk(rt: HostRuntime, number: u64, chunk: &mut [u8]) -> Report
     ensures within { Within (length chunk.new) result }
     ensures came { Came number chunk.new result }
 {
-    let Ok(count) = rt.stdin().read(chunk) else {
-        return Report::Failed;
-    };
-    let is_end = count == 0;
-    if is_end {
-        return Report::End;
+    match rt.stdin().read(chunk) {
+        Ok(0) => Report::End,
+        Ok(count) => Report::Bytes(count),
+        Err(_) => Report::Failed,
     }
-    Report::Bytes(count)
 }
 
 // Writes the whole text, and tells whether that succeeded.

@@ -1,5 +1,7 @@
 -- `bench_answers::put_frame` meets its contract. Assumes nothing.
 use Prim.Native.Nat.{◌/◌, ◌%◌}
+use mathlib.Core.Path.{◌≡◌}
+use native.Mathlib.Omega.{arith}
 use mathlib.Core.List.{[], ◌∷◌}
 use Rattle.text.specs.Letters.{word}
 use Rattle.text.specs.Decimals.{decimal_of}
@@ -13,7 +15,8 @@ pub returns-in-Forward16 : goal.returns-in-Forward16
 unfolding frame_text kind_text data_text
 returns-in-Forward16 c =
     let kind = c.put_text-at.ensures in
-    let told = c.put_hex.ensures in
+    let top : c.in-Forward16.bits / 256 % 256 ≡ c.in-Forward16.bits / 256 = omega arith in
+    let told = rw (c.to_be_bytes.ensures, top) at c.put_hex.ensures in
     rw c.in-Forward16.is (then (put (word "F16\t") (kind.value, kind.out_after)) (put (hexes_of (c.in-Forward16.bits / 256 ∷ c.in-Forward16.bits % 256 ∷ [])) (told.value, told.out_after)))
 
 pub returns-in-Backward8 : goal.returns-in-Backward8

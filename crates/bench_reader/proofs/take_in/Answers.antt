@@ -12,8 +12,8 @@ shared_ref_as_front-feed c = omega (arith, c.requires.within.1)
 pub shared_ref_as_front-write_text : goal.shared_ref_as_front-write_text
 shared_ref_as_front-write_text c = omega (arith, c.feed-fed.ensures.said_in_bounds, c.unwrap_or-end.ensures)
 
-pub returns-clause-ran_2 : goal.returns-clause-ran_2
-returns-clause-ran_2 c =
+pub returns-clause-ran_on : goal.returns-clause-ran_on
+returns-clause-ran_on c =
     let fed = c.feed-fed.ensures in
     elim c.if-not-written.branch [
       | then-not-written w ↦
