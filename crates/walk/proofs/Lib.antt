@@ -1,6 +1,5 @@
 pub mod Data
 pub mod Locals
-pub mod Answers
 pub mod Walk
 pub mod Behind
 pub mod Loans

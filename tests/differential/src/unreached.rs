@@ -265,7 +265,6 @@ macro_rules! told {
 
 /// A call on any station.
 fn call_holds(random: &mut Random, tally: &mut Tally) -> bool {
-    use port::fsm::StartAnswer::Started;
     let (call, high) = (random.below(10), random.one_in(2));
     let mut rust = any_station(high, random);
     let port = copied_station(&rust);
@@ -274,12 +273,12 @@ fn call_holds(random: &mut Random, tally: &mut Tally) -> bool {
     let lent = halfbits::HalfBitBuffer { data, length };
     let given = port::halfbits::HalfBitBuffer { data, length };
     let (mut left, [rust_answer, answer]) = match call {
-        0 => told!(it: port.start_tx(given) => rust.start_tx(&lent), it.answer == Started),
-        1 => told!(it: port.start_answer(given) => rust.start_answer(&lent), it.answer == Started),
+        0 => told!(it: port.start_tx(given) => rust.start_tx(&lent), it.answer.is_ok()),
+        1 => told!(it: port.start_answer(given) => rust.start_answer(&lent), it.answer.is_ok()),
         2 => told!(it: port.poll_tx_state() => rust.poll_tx_state() as u8, it.answer as u8),
-        3 => told!(it: port.take_idle_after_break() => rust.take_idle_after_break(), it.idle),
+        3 => told!(it: port.take_idle_after_break() => rust.take_idle_after_break(), it.answer),
         4 => told!(it: port.take_completed_rx_event() =>
-            rust.take_completed_rx_event(), it.completed.then_some(it.event)),
+            rust.take_completed_rx_event(), it.answer),
         _ => told!(it: port.tick(high) =>
             { rust.tick(); it.station.core.bus.driven_high }, it.driven_high),
     };
