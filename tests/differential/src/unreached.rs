@@ -73,18 +73,11 @@ mod manchester {
         }
     }
 
-    pub fn copied_found(found: Option<PhaseDecode>) -> search::Found {
-        match found {
-            Some(decode) => search::Found::Decode(copied_decode(decode)),
-            None => search::Found::Nothing,
-        }
-    }
-
     pub fn copied_search(search: &BestPhaseSearch) -> search::BestPhaseSearch {
         search::BestPhaseSearch {
             preferred: lengths::BitLengths(search.preferred.0),
             step: search.step,
-            best: copied_found(search.best),
+            best: search.best.map(copied_decode),
         }
     }
 }
@@ -242,7 +235,7 @@ fn window_holds(random: &mut Random, tally: &mut Tally) -> bool {
     let decodes = [decoded, window.decode_phase(most, phase)];
     let found = match rust.step(&rust_window) {
         manchester::PhaseSearch::Searching => None,
-        manchester::PhaseSearch::Done(found) => Some(manchester::copied_found(found)),
+        manchester::PhaseSearch::Done(found) => Some(found.map(copied_decode)),
     };
     let stepped = search.step(window);
     let port_found = match stepped.answer {
