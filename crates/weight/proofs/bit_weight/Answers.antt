@@ -11,7 +11,6 @@ use mir.Syntax.{w16}
 use mir.Val.{SFits, to_z, of_z}
 use mir.Facts.{to_z-of_z}
 use Rattle.laws.specs.Pick.{pick}
-use Rattle.laws.proofs.Below.{fits_below}
 use Rattle.weight.specs.Weight.{bit_weight}
 use Rattle.weight.proofs.bit_weight.Goals as goal
 
@@ -49,12 +48,6 @@ signed_fits b z h = go (eqb b 1) z h
     go false (pos zero) h = record { sfits = omega arith }
     go false (pos (suc n)) h = record { sfits = omega arith }
     go false (negsuc n) h = record { sfits = omega arith }
-
-pub overflow_mul-sign : goal.overflow_mul-sign
-overflow_mul-sign c = fits_below w16 twice 2 tt (c.args.sample / 2 ^ c.args.bit % 2) (omega arith)
-
-pub overflow_sub-sign : goal.overflow_sub-sign
-overflow_sub-sign c = fits_below w16 sign 2 tt (c.args.sample / 2 ^ c.args.bit % 2) (omega arith)
 
 pub overflow_mul-result : goal.overflow_mul-result
 overflow_mul-result c =
