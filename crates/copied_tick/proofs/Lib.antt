@@ -1,1 +1,2 @@
 pub mod Sole
+mod Values

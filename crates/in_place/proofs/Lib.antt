@@ -1,2 +1,5 @@
 pub mod Leaves
+pub mod Lent
+pub mod Values
+pub mod Known
 pub mod Sole

@@ -1,4 +1,4 @@
--- Steps of a walk by hand on what stands behind a reference: it is set, whole or a part of it.
+-- Steps of a walk by hand on what stands behind a reference: it is read or set, whole or a part of it.
 -- Assumes what the kit's walks assume (`Logic`).
 use mathlib.Core.Path.{◌≡◌, sym, ◌∙◌, ap, subst}
 use Prim.Native.Nat.{ℕ, zero, ◌+◌}
@@ -7,16 +7,16 @@ use mathlib.Core.List.{[], ◌∷◌, List, ◌++◌}
 use seplogic.Ra.Ura.{Ura}
 use base.Fraction.{full_share}
 use lib.Dec.{T}
-use mir.Syntax.{assign, Ty, place, deref, field, ty_struct, Tys, Sym, rv_opd, Opd as Operand, Body, seq, Local}
+use mir.Syntax.{assign, Ty, place, copy, deref, field, ty_struct, Tys, Sym, rv_opd, Opd as Operand, Body, seq, Local}
 use mir.Val.{Val, Vals, WT, has_ty, vptr, vstruct}
 use base.Fml.{fat}
 use mir.Fields.{get_v, set_v}
 use prog.Memory.{field_at}
-use prog.Wp.{Spot, Calls, Loops}
+use prog.Wp.{Spot, Calls, Loops, Wp, after_seq}
 use types.Logic.{Logic}
-use types.Kit.{Item, ‵, Post, ◌$◌}
-use types.Part.{Part, whole, sub, store_in}
-use types.Run.{look, hop, of_opd, assigns, Writes, Finds}
+use types.Kit.{Item, ‵, Post, any_q, post, ◌$◌}
+use types.Part.{Part, whole, sub, look_in, store_in}
+use types.Run.{look, load, hop, of_opd, assigns, assigns_last, Writes, Finds}
 use Rattle.walk.proofs.Locals.{Held, holding, locals, blocks, at, type_of, twice, onward, follow, fields, followed, nth_local, span, nth_after, put_after, spot_local}
 use Rattle.walk.proofs.Walk.{At, Gets}
 
@@ -41,11 +41,17 @@ module _ {M : Type 1} {𝓤 : Ura M} {𝓛 : Logic 𝓤} where
         subst (Writes K 𝓛 (locals 𝓤 l ls vs ++ (x ∷ X)) sp.0 sp.1 sp.2 v) (put_after 𝓛 l ls vs x (back v) X)
         (store_in t (span 𝓛 ls) (subst (λ (j : Item 𝓤). Part K 𝓛 j full_share sp.0 sp.1 sp.2 v₀ back) (sym (nth_after 𝓛 l ls vs x X)) p) fits)
 
-  -- ---- behind a reference, which local i holds: the cell x stands there, first after the locals, and the part at the path ks is set
+  -- ---- behind a reference, which local i holds: the cell x stands there, first after the locals, and the part at the path ks is read or set
   module _ {K : Type 0} {l : ℕ → ℕ} {ls : List Local} {vs : Held} {x : Item 𝓤} {X : List (Item 𝓤)} where
-    -- a store there, as a statement before the rest
+    pub behind : K → {i : ℕ} {σ τ : Ty} {sp : Spot 𝓤 H} {v : Val} {back : Val → Item 𝓤} (b o : ℕ) (ks : List ℕ) → type_of ls i ≡ some σ → vs i ≡ some (vptr b o)
+        → follow (τ, b, o) ks ≡ some sp → Part K 𝓛 x full_share sp.0 sp.1 sp.2 v back → Gets 𝓛 K l ls vs (x ∷ X) (copy (place i (deref τ ∷ fields ks))) v
+    behind t {sp = sp} {v = v} {back = back} b o ks e h w p = record {
+      go = load t (found l ls vs t x X b o ks e h w) (look_in t (span 𝓛 ls) (subst (λ (j : Item 𝓤). Part K 𝓛 j full_share sp.0 sp.1 sp.2 v back) (sym (nth_after 𝓛 l ls vs x X)) p));
+    }
+
+    -- a store there, as a statement before the rest and as the last of its part
     module _ {C : Calls 𝓤 H} {Λ : Loops 𝓤 H} {q : Post 𝓤 H} where
-      -- what `stores` says; the law of fields below rests on this one
+      -- what `stores` says; the laws of fields below rest on this one
       storing : K → {i : ℕ} {a : Operand} {c : Body} {σ τ : Ty} {sp : Spot 𝓤 H} {v v₀ : Val} {left : Val → Item 𝓤} (b o : ℕ) (ks : List ℕ) → type_of ls i ≡ some σ → vs i ≡ some (vptr b o)
           → Gets 𝓛 K l ls vs (x ∷ X) a v → follow (τ, b, o) ks ≡ some sp → Part K 𝓛 x full_share sp.0 sp.1 sp.2 v₀ left → T (has_ty sp.0 v) × WT v
           → At 𝓛 K C Λ l ls vs (left v ∷ X) c q → At 𝓛 K C Λ l ls vs (x ∷ X) (seq (assign (place i (deref τ ∷ fields ks)) (rv_opd a)) c) q
@@ -56,10 +62,28 @@ module _ {M : Type 1} {𝓤 : Ura M} {𝓛 : Logic 𝓤} where
           → At 𝓛 K C Λ l ls vs (back v ∷ X) c q → At 𝓛 K C Λ l ls vs (x ∷ X) (seq (assign (place i (deref τ ∷ fields ks)) (rv_opd a)) c) q
       stores t b o ks e h g w p fits s = storing t b o ks e h g w p fits s
 
-  -- A struct. Its type and its value stay unknown here, and are never spelled out: those of a large struct are dear to carry.
+      pub stores_last : K → {i : ℕ} {a : Operand} {c : Body} {σ τ : Ty} {sp : Spot 𝓤 H} {v v₀ : Val} {back : Val → Item 𝓤} (b o : ℕ) (ks : List ℕ) → type_of ls i ≡ some σ → vs i ≡ some (vptr b o)
+          → Gets 𝓛 K l ls vs (x ∷ X) a v → follow (τ, b, o) ks ≡ some sp → Part K 𝓛 x full_share sp.0 sp.1 sp.2 v₀ back → T (has_ty sp.0 v) × WT v
+          → At 𝓛 K C Λ l ls vs (back v ∷ X) c q → At 𝓛 K C Λ l ls vs (x ∷ X) (assign (place i (deref τ ∷ fields ks)) (rv_opd a)) (any_q (after_seq 𝓤 H (Wp 𝓤 H C Λ (blocks l ls) c (post 𝓤 H q)) (post 𝓤 H q)))
+      stores_last t b o ks e h g w p fits s = record { go = assigns_last t (of_opd t g.go) (found l ls vs t x X b o ks e h w) (stored l ls vs t X p fits) $ record { prf = s.go.prf } }
+
+  -- The same of the field k of a struct. Its type and its value stay unknown here, and are never spelled out: those of a large struct are dear to carry.
   module _ {K : Type 0} {l : ℕ → ℕ} {ls : List Local} {vs : Held} {X : List (Item 𝓤)} {ν : Sym} {τs : Tys} {us : Vals} where
+    pub field_behind : K → {i : ℕ} {σ τ : Ty} {d : ℕ} (b o k : ℕ) → type_of ls i ≡ some σ → vs i ≡ some (vptr b o) → field_at zero τs k ≡ some (τ, d)
+        → Gets 𝓛 K l ls vs (struct_cell 𝓤 ν τs b o us ∷ X) (copy (place i (deref (ty_struct ν τs) ∷ field k ∷ []))) (get_v us k)
+    field_behind t b o k e h w = behind t b o (k ∷ []) e h (leads ν τs b o k w) (sub t k w (whole t))
+
     module _ {C : Calls 𝓤 H} {Λ : Loops 𝓤 H} {q : Post 𝓤 H} where
-      -- the store to the field k of the struct that the field j holds
+      pub stores_field : K → {i : ℕ} {a : Operand} {c : Body} {σ τ : Ty} {d : ℕ} {v : Val} (b o k : ℕ) → type_of ls i ≡ some σ → vs i ≡ some (vptr b o) → Gets 𝓛 K l ls vs (struct_cell 𝓤 ν τs b o us ∷ X) a v → field_at zero τs k ≡ some (τ, d)
+          → T (has_ty τ v) × WT v → At 𝓛 K C Λ l ls vs (struct_cell 𝓤 ν τs b o (set_v us k v) ∷ X) c q → At 𝓛 K C Λ l ls vs (struct_cell 𝓤 ν τs b o us ∷ X) (seq (assign (place i (deref (ty_struct ν τs) ∷ field k ∷ [])) (rv_opd a)) c) q
+      stores_field t b o k e h g w fits s = storing t b o (k ∷ []) e h g (leads ν τs b o k w) (sub t k w (whole t)) fits s
+
+      pub stores_field_last : K → {i : ℕ} {a : Operand} {c : Body} {σ τ : Ty} {d : ℕ} {v : Val} (b o k : ℕ) → type_of ls i ≡ some σ → vs i ≡ some (vptr b o) → Gets 𝓛 K l ls vs (struct_cell 𝓤 ν τs b o us ∷ X) a v → field_at zero τs k ≡ some (τ, d)
+          → T (has_ty τ v) × WT v → At 𝓛 K C Λ l ls vs (struct_cell 𝓤 ν τs b o (set_v us k v) ∷ X) c q
+          → At 𝓛 K C Λ l ls vs (struct_cell 𝓤 ν τs b o us ∷ X) (assign (place i (deref (ty_struct ν τs) ∷ field k ∷ [])) (rv_opd a)) (any_q (after_seq 𝓤 H (Wp 𝓤 H C Λ (blocks l ls) c (post 𝓤 H q)) (post 𝓤 H q)))
+      stores_field_last t b o k e h g w fits s = stores_last t b o (k ∷ []) e h g (leads ν τs b o k w) (sub t k w (whole t)) fits s
+
+      -- and of the field k of the struct that the field j holds
       pub stores_within : K → {i : ℕ} {a : Operand} {c : Body} {σ τ : Ty} {d e : ℕ} {v : Val} {μ : Sym} {σs : Tys} {ws : Vals} (b o j k : ℕ) → type_of ls i ≡ some σ → vs i ≡ some (vptr b o) → Gets 𝓛 K l ls vs (struct_cell 𝓤 ν τs b o us ∷ X) a v
           → field_at zero τs j ≡ some (ty_struct μ σs, d) → get_v us j ≡ vstruct ws → field_at zero σs k ≡ some (τ, e) → T (has_ty τ v) × WT v → At 𝓛 K C Λ l ls vs (struct_cell 𝓤 ν τs b o (set_v us j (vstruct (set_v ws k v))) ∷ X) c q
           → At 𝓛 K C Λ l ls vs (struct_cell 𝓤 ν τs b o us ∷ X) (seq (assign (place i (deref (ty_struct ν τs) ∷ field j ∷ field k ∷ [])) (rv_opd a)) c) q

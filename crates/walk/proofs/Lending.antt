@@ -5,8 +5,9 @@ use mathlib.Core.Option.{some}
 use mathlib.Core.List.{[], ◌∷◌, List, ◌++◌}
 use seplogic.Ra.Ura.{Ura}
 use base.Fraction.{full_share}
-use mir.Syntax.{Callee, Ty, place, Opd as Operand, Body, seq, call, Local, named}
-use mir.Val.{Val, vptr}
+use lib.Dec.{T}
+use mir.Syntax.{assign, Callee, Ty, place, Opd as Operand, Body, seq, call, Local, named, addr_of, aggregate}
+use mir.Val.{Val, WT, has_ty, vptr, vstruct, of_list}
 use base.Logic.{SProp, ent, sep, emp, guard, via, id⊢}
 use base.Fml.{ftrue, fat, Fml, GName, flft, flent, fres}
 use prog.Wp.{Calls, Loops}
@@ -15,7 +16,8 @@ use contract.Monad.{fact}
 use sound.WpLaws.{FmC}
 use types.Kit as Kit
 use types.Kit.{Item, ‵, raw, ◌⊛◌, given, later, nth, ⋆, push, Post, Goal, runs, lands, Seq, Step, step, ◌$◌, ◌∵◌, !, qed, by, move, keep, drop, use1, split, pick, learn, regoal, await, updating, now as at_once, check, done, mean, del, pop, pull, fill, use0, use2, use3, join, rewrite, fsplit, fjoin}
-use types.Run.{stop, land, Opds, calls}
+use types.Part.{agg}
+use types.Run.{stop, assigns, land, Opds, addr, calls}
 use denote.RattleType.{Denots, Valss, flat, owns}
 use denote.Laws.{Is, shows}
 use denote.Steps.{heard, only, facts, nothing}
@@ -34,7 +36,7 @@ use denote.Lend.{lends_ref, ref_back}
 use denote.Triple.Entry.{Args}
 use Rattle.walk.proofs.Data.{Data, Good}
 use Rattle.walk.proofs.Locals.{Held, put, holding, locals, blocks, at, type_of, twice, nth_local, put_local, spot_local}
-use Rattle.walk.proofs.Walk.{At, sets}
+use Rattle.walk.proofs.Walk.{At, GetsAll, sets}
 use Rattle.walk.proofs.Loans.{One, cell, in_memory, of_memory}
 
 module _ {M : Type 1} {𝓤 : Ura M} {𝓛 : Logic 𝓤} where
@@ -113,7 +115,14 @@ module _ {M : Type 1} {𝓤 : Ura M} {𝓛 : Logic 𝓤} where
       }
 
   module _ {K : Type 0} {l : ℕ → ℕ} {ls : List Local} {vs : Held} {X : List (Item 𝓤)} {C : Calls 𝓤 H} {Λ : Loops 𝓤 H} {q : Post 𝓤 H} where
-    -- ---- a statement: a call to which local i is lent, into local j. Its operands are found where the local's cell stands no more, and the call before all else
+    -- ---- statements: the address of local i, a struct of operands, and a call to which local i is lent, each into local j. A call's operands are found where the local's cell stands no more, and the call before all else
+    pub refers : K → {i j : ℕ} {b : Body} {σ τ : Ty} → type_of ls i ≡ some σ → type_of ls j ≡ some τ → T (has_ty τ (vptr (l i) 0)) × WT (vptr (l i) 0)
+        → At 𝓛 K C Λ l ls (put j (some (vptr (l i) 0)) vs) X b q → At 𝓛 K C Λ l ls vs X (seq (assign (place j []) (addr_of (place i []))) b) q
+    refers t {i} {j} {σ = σ} {τ = τ} e e' fits s = record { go = assigns t (addr t (at t (spot_local 𝓛 l ls i σ e) (stop t))) (at t (spot_local 𝓛 l ls j τ e') (stop t)) (sets l ls vs t X j e' fits) $ s.go }
+
+    pub builds : K → {j : ℕ} {xs : List Operand} {us : List Val} {b : Body} {τ : Ty} → type_of ls j ≡ some τ → GetsAll 𝓛 K l ls vs X xs us → T (has_ty τ (vstruct (of_list us))) × WT (vstruct (of_list us))
+        → At 𝓛 K C Λ l ls (put j (some (vstruct (of_list us))) vs) X b q → At 𝓛 K C Λ l ls vs X (seq (assign (place j []) (aggregate xs)) b) q
+    builds t {j} {τ = τ} e gs fits s = record { go = assigns t (agg t gs.go) (at t (spot_local 𝓛 l ls j τ e) (stop t)) (sets l ls vs t X j e fits) $ s.go }
 
     pub asks_lending : K → FmC 𝓤 H 𝓛.laws C → (i : ℕ) {j : ℕ} {f : Callee} {xs : List Operand} {us : List Val} {b : Body} {τ : Ty} {u v : Val} {D : Data 𝓛} {y : D.row.Denot} {φ : Type 0}
         → Gives C f us (fat full_share τ (l i) 0 u) D y φ (fat full_share τ (l i) 0 v) → type_of ls i ≡ some τ → vs i ≡ some u

@@ -1,5 +1,6 @@
 pub mod Data
 pub mod Locals
+pub mod Answers
 pub mod Walk
 pub mod Behind
 pub mod Loans

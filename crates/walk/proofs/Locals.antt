@@ -1,4 +1,4 @@
--- All locals of a function at once: what they hold, where each stands in a context that begins with them,
+-- All locals of a function at once: what they hold, how they are allocated and freed, where each stands in a context that begins with them,
 -- and the way to a place in one. Assumes what the kit's walks assume (`Logic`).
 use mathlib.Core.Path.{◌≡◌, refl, sym, ap, subst}
 use Prim.Native.Nat.{ℕ, zero, suc, ◌+◌}
@@ -6,7 +6,7 @@ use mathlib.Core.Option.{Option, none, some}
 use mathlib.Core.List.{[], ◌∷◌, List, ◌++◌}
 use seplogic.Ra.Ura.{Ura}
 use base.Fraction.{full_share}
-use mir.Syntax.{Ty, Step as PStep, place, field, Local, local}
+use mir.Syntax.{Ty, Step as PStep, place, field, Local, local, value_local}
 use mir.Val.{Val}
 use base.Logic.{sep, via, comm∗, assoc∗, assoc', mono_l, mono_r}
 use base.Fml.{fat, froom, fdies}
@@ -15,11 +15,14 @@ use prog.Wp.{Env, Spot, spot_of}
 use types.Logic.{Logic}
 use types.Kit as Kit
 use types.Kit.{Item, ‵, nth, ⋆, ++⊢, ⊢++, Goal, allocs, frees, Seq, Step, step, ◌$◌, by}
-use types.Run.{fld, stop, Walks, Finds, from}
+use types.Run.{fld, stop, Walks, Finds, from, alloc1, alloc0, free1, free0, forget}
 
 -- ---- what the locals hold, by number. (A list would do, but an unknown end of it is dear to compare.)
 abbrev pub Held : Type 0
 Held = ℕ → Option Val
+
+abbrev pub nothing_more : Held
+nothing_more i = none
 
 abbrev pub put : ℕ → Option Val → Held → Held
 put zero v vs zero = v
@@ -41,6 +44,14 @@ abbrev pub blocks : (ℕ → ℕ) → List Local → List (Ty × ℕ)
 blocks l [] = []
 blocks l (local τ h ∷ ls) = (τ, l 0) ∷ blocks (λ i. l (suc i)) ls
 
+abbrev front : ℕ → (ℕ → ℕ) → ℕ → ℕ
+front b l zero = b
+front b l (suc i) = l i
+
+-- a local that lies in no memory of its own
+abbrev pub value : Ty → Local
+value τ = local τ value_local
+
 module _ {M : Type 1} {𝓤 : Ura M} {𝓛 : Logic 𝓤} where
   open 𝓛 use {H}
 
@@ -55,6 +66,23 @@ module _ {M : Type 1} {𝓤 : Ura M} {𝓛 : Logic 𝓤} where
         (via 𝓤 (sep 𝓤 (⋆ 𝓛 Δ) (sep 𝓤 (⋆ 𝓛 X) (⋆ 𝓛 Γ))) (assoc∗ 𝓤 (⋆ 𝓛 Δ) (⋆ 𝓛 X) (⋆ 𝓛 Γ))
         (via 𝓤 (sep 𝓤 (⋆ 𝓛 Δ) (⋆ 𝓛 (X ++ Γ))) (mono_r 𝓤 (⋆ 𝓛 Δ) (++⊢ 𝓛 X Γ))
         (via 𝓤 (⋆ 𝓛 (Δ ++ (X ++ Γ))) (++⊢ 𝓛 Δ (X ++ Γ)) s.prf))))))))
+
+    -- all locals are allocated, the first at the head
+    pub alloc_all : K → (ls : List Local) {Γ : List (Item 𝓤)} {Kt : Env 𝓤 H → Goal 𝓤 H} → ((l : ℕ → ℕ) → Seq K 𝓛 (locals 𝓤 l ls nothing_more ++ Γ) (Kt (blocks l ls))) → Seq K 𝓛 Γ (allocs ls Kt)
+    alloc_all t [] k = alloc0 t $ k (λ _. 0)
+    alloc_all t (local τ h ∷ ls) {Γ} k = alloc1 t (λ b. alloc_all t ls (λ l. swapped t (locals 𝓤 l ls nothing_more) (‵ (froom τ b 0) ∷ ‵ (fdies τ b) ∷ []) Γ $ k (front b l)))
+
+    -- and freed, whatever each holds, before what else there is
+    frees_one : K → {τ : Ty} {b : ℕ} (v : Option Val) {Γ : List (Item 𝓤)} {E : Env 𝓤 H} {g : Goal 𝓤 H} → Seq K 𝓛 Γ (frees E g) → Seq K 𝓛 (holding 𝓤 τ b v ∷ ‵ (fdies τ b) ∷ Γ) (frees ((τ, b) ∷ E) g)
+    frees_one t none s = free1 t $ s
+    frees_one t (some v) s = forget t 0 refl $ free1 t $ s
+
+    frees_all : K → (l : ℕ → ℕ) (ls : List Local) (vs : Held) {Γ : List (Item 𝓤)} {g : Goal 𝓤 H} → Seq K 𝓛 Γ g → Seq K 𝓛 (locals 𝓤 l ls vs ++ Γ) (frees (blocks l ls) g)
+    frees_all t l [] vs s = free0 t $ s
+    frees_all t l (local τ h ∷ ls) vs s = frees_one t (vs 0) (frees_all t (λ i. l (suc i)) ls (λ i. vs (suc i)) s)
+
+    pub free_all : K → (X : List (Item 𝓤)) (l : ℕ → ℕ) (ls : List Local) (vs : Held) {g : Goal 𝓤 H} → Step K 𝓛 (X ++ []) g (X ++ (locals 𝓤 l ls vs ++ [])) (frees (blocks l ls) g)
+    free_all t X l ls vs = step (λ s. swapped t X (locals 𝓤 l ls vs) [] $ frees_all t l ls vs s)
 
     -- a place in the local i, which lies at sp
     pub at : K → {Γ : List (Item 𝓤)} {E : Env 𝓤 H} {i : ℕ} {st : List PStep} {sp sp' : Spot 𝓤 H} → spot_of 𝓤 H E i ≡ sp → Walks K 𝓛 Γ E sp st sp' → Finds K 𝓛 Γ E (place i st) sp'
