@@ -31,7 +31,8 @@ BitsToWaveAmid =
 abbrev pub FrameToWaveAmid : Type 0
 FrameToWaveAmid =
     (bits first second third : ℕ) → is_bit_count bits ≡ true → (s : DaliBitbangPhy) → Reached s → (by : Start) → MayStart by s
-    → (host : Host) → LetsSend bits host → let frame = frame_of bits first second third in SentAmid host by s (handed_out (encoded_of bits frame)) (frame_bits frame)
+    → (host : Host) → LetsSend bits host
+    → let frame = frame_of bits first second third in SentAmid host by s (handed_out (encoded_of bits frame)) (frame_bits frame)
 
 -- ---- from wave to frame
 -- A reached station in Idle that hears a wave whole has the wave's bits in its capture, if the host lets it.
