@@ -33,6 +33,7 @@ struct PublicConstants {
     max_stations: usize,
 }
 
+// The first `count` of the four places are the line's stations. An array by value is document 01's form.
 #[derive(Clone, Copy)]
 pub struct BenchLine {
     stations: [DaliBitbangPhy; MAX_STATIONS],

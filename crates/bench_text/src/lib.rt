@@ -45,7 +45,8 @@ pub fn refusal_number(refusal: Refusal) -> u32
     refusal as u32
 }
 
-// What a good line says: the silence in ticks, the count, and the samples, which are 0 past the count.
+// What a good line says: the silence in ticks, the count, and the samples, which are 0 past the count. Memory is fixed, so the count stands beside
+// the room for them.
 #[derive(Clone, Copy)]
 pub struct Capture {
     pub silence: u8,

@@ -4,6 +4,7 @@ use text::fields;
 
 pub(crate) const BYTES_ROOM: usize = 1_024;
 
+// Memory is fixed, so the length stands beside the room.
 #[derive(Clone, Copy)]
 pub(crate) struct ByteString {
     pub(crate) held: [u8; BYTES_ROOM],

@@ -40,7 +40,7 @@ struct Session {
     kept: Kept,
     lines: Lines,
     answers: Answers,
-    // Nothing has failed, and the input has not ended.
+    // Nothing has failed, and the input has not ended. The other fields count either way.
     open: bool,
 }
 

@@ -31,13 +31,14 @@ struct PublicConstants {
     max_samples: usize,
 }
 
-// What the search found, if the interrupt has already searched.
+// What the search found, if the interrupt has already searched. It is the Rust's own enum: an Option of an Option would say no more.
 #[derive(Clone, Copy)]
 pub enum IsrDecode {
     NotDecoded,
     Decoded(Option<PhaseDecode>),
 }
 
+// The fields are the Rust's. Memory is fixed, so the count stands beside the room for the samples.
 #[derive(Clone, Copy)]
 pub struct RxCompletedEvent {
     pub samples: [u8; DALI_RX_SAMPLE_BUF_LEN],

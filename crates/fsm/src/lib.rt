@@ -92,7 +92,7 @@ pub struct DaliBitbangPhy {
     event_rx: Rx,
 }
 
-// Calls that change a station give it back beside their answer.
+// Calls that change a station give it back beside their answer. A tick's has a name of its own, which says what the bool is.
 
 #[derive(Clone, Copy)]
 pub struct Ticked {

@@ -10,6 +10,7 @@ ghost use Rattle.halfbits.specs.HalfBits.{half_bits_of};
 ghost use Rattle.halfbits.specs.Encoding.{is_bit_count, frame_of, encode_error_number, encode_answer_number, encode_number, answer_of, written_to, encoded_of};
 ghost use Rattle.halfbits.specs.Code.{half_bits, bytes_in};
 
+// The fields are the Rust's. Memory is fixed, so the length stands beside the room for the half-bits.
 #[derive(Clone, Copy)]
 pub struct HalfBitBuffer {
     pub data: [u8; HalfBitBuffer::DATA_LEN],

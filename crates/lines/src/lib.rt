@@ -25,14 +25,14 @@ struct PublicConstants {
     line_room: usize,
 }
 
-// The first `len` bytes are the unfinished line, as far as there is room for it.
+// The first `len` bytes are the unfinished line, as far as there is room for it. Memory is fixed, so the length stands beside the room.
 #[derive(Clone, Copy)]
 pub struct Lines {
     pub held: [u8; LINE_ROOM],
     pub len: usize,
 }
 
-// What `take` answers: the place in the chunk to go on from, and whether the line has ended.
+// What `take` answers: the place in the chunk to go on from, which counts in both cases, and whether the line has ended.
 #[derive(Clone, Copy)]
 pub struct Taken {
     pub next: usize,

@@ -40,6 +40,7 @@ pub struct SearchAnswer {
     pub steps: u8,
 }
 
+// The Rust's own enum, with its names. Searching says that there is no answer yet, and not that nothing was found.
 #[derive(Clone, Copy)]
 pub enum PhaseSearch {
     Searching,

@@ -46,7 +46,8 @@ fn fill(field: &[u8], bytes: &mut [u8])
     }
 }
 
-// Fills the buffer and answers true, if the field is two hex digits for each of its bytes. If not, the buffer stays as it was.
+// Fills the buffer and answers true, if the field is two hex digits for each of its bytes. If not, the buffer stays as it was. A bool says it all,
+// since what is read is in the buffer.
 #[tactic(auto, using(crate::proofs::HexLaws::hex_says, crate::proofs::HexLaws::not_filled))]
 pub fn read_hex(field: &[u8], bytes: &mut [u8]) -> bool
     ensures value { result ≡ is_hex (length bytes.old) field.now }
@@ -101,7 +102,7 @@ pub fn put_hex(out: &mut [u8], at: usize, bytes: &[u8]) -> usize
     end
 }
 
-// Writes the last `width` hex digits of a number.
+// Writes the last `width` hex digits of a number. Decimals have a loop of their own: one for both would have to be told base, digits and definition.
 pub fn put_hex_digits(out: &mut [u8], at: usize, number: u64, width: usize) -> usize
     ensures value { result ≡ place_past (hex_digits_of width number) at out.old }
     ensures out_after { out.new ≡ buffer_with (hex_digits_of width number) at out.old }

@@ -77,12 +77,14 @@ fn sum_of(sum: u64, left: u32, pass: Pass) -> u64
     sum % 4_294_967_296 * 31 + (highs + idle + count * 3 + byte)
 }
 
+// A foreign caller passes no closure, so `sends` is a flag.
 #[unsafe(no_mangle)]
 pub extern "C" fn timed_ticks(levels: &[u8; LEVELS], passes: u32, sends: bool) -> u64
     ensures { result ≡ timed_from sends levels.now passes new_station 0 }
 {
     let mut station = DaliBitbangPhy::new();
     let mut sum: u64 = 0;
+    // Each sum takes the number of passes that are left, so the loop counts down.
     let mut left = passes;
     while left != 0 {
         left -= 1;

@@ -108,6 +108,7 @@ impl PhaseDecode {
     }
 }
 
+// The fields are the Rust's. Memory is fixed, so the number of samples and pad stands beside the room for them.
 #[derive(Clone, Copy)]
 pub struct SampleWindow {
     bytes: [u8; WINDOW_LEN],
