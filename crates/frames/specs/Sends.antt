@@ -1,9 +1,9 @@
 -- Document 01, "The wave" and "Machine": when a station takes a start, and what it means that it sends bits. Assumes nothing.
-use Rattle.std.specs.Prelude.{ℕ, ◌+◌, ◌*◌, ◌≤◌, ◌<◌, Bool, true, List, [], ◌≡◌, length, Result, ⊤}
+use Rattle.std.specs.Prelude.{ℕ, ◌+◌, ◌*◌, ◌≤◌, ◌<◌, Bool, true, List, ◌≡◌, length, replicate, Result, ⊤}
 use Rattle.halfbits.specs.declared.HalfBitBuffer.{HalfBitBuffer}
 use Rattle.halfbits.specs.Wave.{high, level_at}
 use Rattle.halfbits.specs.declared.EncodeError.{EncodeError}
-use Rattle.halfbits.specs.HalfBits.{half_bits_of, buffer_of}
+use Rattle.halfbits.specs.HalfBits.{half_bits_of}
 use Rattle.machine.specs.declared.BusState.{BusState}
 use Rattle.fsm.specs.declared.DaliBitbangPhy.{DaliBitbangPhy}
 use Rattle.fsm.specs.declared.Answered.{Answered}
@@ -40,10 +40,10 @@ MayStart by s = taken_in by s.core.bus.bus_state ≡ true
 abbrev pub FitsBuffer : List Bool → Type 0
 FitsBuffer row = half_bits_of (length row) ≤ 54
 
--- the buffer in an answer of the encoder. If the encoder refuses the bit count, there is none, and this is the buffer of no bits.
+-- the buffer in an answer of the encoder. If the encoder refuses the bit count, there is none, and this is a buffer that no start takes.
 abbrev pub handed_out : Result HalfBitBuffer EncodeError → HalfBitBuffer
 handed_out (result.Ok hb) = hb
-handed_out (result.Err e) = buffer_of []
+handed_out (result.Err e) = record { «data» = replicate 7 0; length = 0 }
 
 -- the tick at which the station is Idle again, counted from the start call: 89, 153 and 217 for 8, 16 and 24 bits
 abbrev pub idle_at : ℕ → ℕ
