@@ -49,8 +49,8 @@ enum Next {
     Failed,
 }
 
-// A run so far: the number of its reads, the reader after them, and how it goes on. The contracts say what led to it (`Ran`), and no ghost field,
-// since such a field holds only a fact that has one proof: this one has many, as it tells all that came.
+// A run so far: the number of its reads, the reader after them, and how it goes on. The contracts say what led to it (`Ran`), and no ghost field:
+// such a field could hold it only truncated, and `Told` would then say less.
 #[derive(Clone, Copy)]
 struct Run {
     reads: u64,
@@ -126,7 +126,7 @@ fn turn(rt: HostRuntime, run: Run, chunk: &mut Chunk, out: &mut Answers) -> Run
     }
 }
 
-// Feeds the reader what came, and writes what it says.
+// Feeds the reader what came, and writes what it says. The contract speaks of the whole buffer (`Came`), so the count stands beside it.
 fn take_in(rt: HostRuntime, run: Run, chunk: &Chunk, count: usize, out: &mut Answers) -> Run
     requires reads_lt_reads_max { run.reads < reads_max }
     requires ran { Ran run.reads run.reader More }

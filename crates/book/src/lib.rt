@@ -161,8 +161,8 @@ fn one_more(count: u32) -> u32
     count.saturating_add(1).min(MAX_LINES)
 }
 
-// Answers a whole line and counts it. It asks for a line left to count and for room for a row, as the next two functions do: a struct of counts, buffer
-// and place would have to promise the buffer too.
+// Answers a whole line and counts it. It asks for a line left to count and for room for a row, as the next two functions do: a struct of counts,
+// buffer and place would have to promise the buffer too.
 fn end_line(counts: Counts, text: &[u8], out: &mut [u8], at: usize) -> Ended
     requires lines_lt_lines_max { counts.lines < lines_max }
     requires row_max_in_bounds { at + row_max ≤ length out.old }

@@ -29,7 +29,7 @@ pub fn read_chunk(rt: HostRuntime, number: u64, chunk: &mut [u8]) -> Report
     }
 }
 
-// Writes the whole text, and tells whether that succeeded.
+// Writes the whole text, and tells whether that succeeded. A bool says it all, since a program does the same whatever the failure was.
 pub fn write_text(rt: HostRuntime, text: &[u8]) -> bool
     ensures { Went text.now result }
 {

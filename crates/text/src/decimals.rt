@@ -6,7 +6,7 @@ ghost use Rattle.text.specs.Code.{Put, digits, digit_in};
 
 use crate::writing;
 
-// The value of a digit.
+// The value of a digit. Hex has digits and a reader of its own, since range, base and definition differ.
 #[tactic(auto, using(crate::proofs::DecimalLaws::decimal_digits))]
 fn digit_value(byte: u8) -> Option<u8>
     ensures { result ≡ digit_in byte }
@@ -53,7 +53,7 @@ pub fn read_byte(field: &[u8], most: u8) -> Option<u8>
     Some(number as u8)
 }
 
-// How many decimal digits a number has.
+// How many decimal digits a number has. The loop takes off one digit a turn, as the definition does, so the proof needs no logarithm.
 pub(crate) fn places(number: u32) -> usize
     ensures { result ≡ length (decimal_of number) }
 {
@@ -66,7 +66,7 @@ pub(crate) fn places(number: u32) -> usize
     count
 }
 
-// Writes the last `count` digits of a number.
+// Writes the last `count` digits of a number. It writes by index, since after `iter_mut` a proof knows no byte.
 fn put_digits(out: &mut [u8], at: usize, count: usize, number: u32) -> usize
     ensures { Put (digits count number) at out.old out.new result }
 {

@@ -6,7 +6,7 @@ ghost use Rattle.text.specs.Code.{hex_digit_in};
 
 use crate::writing;
 
-// The value of a hex digit.
+// The value of a hex digit. Decimals have digits and a reader of their own, since range, base and definition differ.
 #[tactic(auto, using(crate::proofs::HexLaws::hex_digits))]
 fn digit_value(byte: u8) -> Option<u8>
     ensures { result ≡ hex_digit_in byte }
@@ -34,7 +34,7 @@ fn is_hex(field: &[u8], count: usize) -> bool
     all_hex(field)
 }
 
-// Fills the buffer from a field that has two hex digits for each of its bytes.
+// Fills the buffer from a field that has two hex digits for each of its bytes. This file writes by index: after `iter_mut` a proof knows no byte.
 fn fill(field: &[u8], bytes: &mut [u8])
     requires { (length field.now ≡ 2 * length bytes.old) × (all_hex field.now ≡ true) }
     ensures { bytes.new ≡ bytes_of field.now }
@@ -102,7 +102,8 @@ pub fn put_hex(out: &mut [u8], at: usize, bytes: &[u8]) -> usize
     end
 }
 
-// Writes the last `width` hex digits of a number. Decimals have a loop of their own: one for both would have to be told base, digits and definition.
+// Writes the last `width` hex digits of a number. No program calls it; `ReadBack` speaks of what it promises. Decimals have a loop of their own: one
+// for both would have to be told base, digits and definition.
 pub fn put_hex_digits(out: &mut [u8], at: usize, number: u64, width: usize) -> usize
     ensures value { result ≡ place_past (hex_digits_of width number) at out.old }
     ensures out_after { out.new ≡ buffer_with (hex_digits_of width number) at out.old }
