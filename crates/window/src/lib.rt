@@ -47,6 +47,7 @@ const MOST_SAMPLE_BITS: u16 = DALI_RX_SAMPLE_BUF_LEN as u16 * WINDOW_BITS_PER_SA
 // No peek begins more than 128 ticks before the start. The code counts positions from there, so that none is negative.
 const EARLIEST: u16 = 128;
 
+// The Rust's own enum.
 #[derive(Drop)]
 enum PeekStop {
     None,
@@ -183,7 +184,7 @@ impl SampleWindow {
         sample
     }
 
-    // Eight ticks from a position on, the first on top.
+    // Eight ticks from a position on, the first on top. The bound on it keeps the sums within 16 bits, here and in the next three functions.
     #[tactic(auto, using(crate::proofs::Peeks::peek_past, crate::proofs::Peeks::peek_within))]
     fn peek8(&self, at: u16) -> u8
         requires { at ≤ 1000 }
@@ -321,6 +322,7 @@ fn stride(centre: u8, early: u8, late: u8) -> u16
     if centre < early { 7 } else { 8 }
 }
 
+// The Rust's match. It is a function by itself, since a definition names it.
 #[tactic(auto, unfolding(crate::specs::Code::stop_of, laws::specs::Pick::pick))]
 fn stop_of(sample: u8) -> PeekStop
     ensures { result ≡ stop_of sample }
