@@ -25,10 +25,8 @@ impl BitLengths {
     fn with_length(self, length: u8) -> BitLengths
         ensures { result ≡ with_length self length }
     {
-        match 1u32.checked_shl(length as u32) {
-            Some(bit) => BitLengths(self.0 | bit),
-            None => self,
-        }
+        1u32.checked_shl(length as u32)
+            .map_or(self, |bit| BitLengths(self.0 | bit))
     }
 
     #[tactic(auto, unfolding(crate::specs::Lengths::holds, laws::specs::Pick::pick))]

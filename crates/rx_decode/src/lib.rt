@@ -36,6 +36,7 @@ fn try_decode(ev: RxCompletedEvent, preferred: BitLengths) -> Option<PhaseDecode
     BestPhaseSearch::new(preferred).run(window).found
 }
 
+// Document 01 asks for let-else here.
 #[tactic(auto, using(crate::proofs::Telling::tells_byte, lengths::proofs::Masks::backward_mask), unfolding(crate::specs::Reading::byte_in, crate::specs::Reading::byte_of, laws::specs::Pick::pick))]
 pub fn decode_backward_byte(ev: RxCompletedEvent) -> Option<u8>
     ensures value { result ≡ byte_in (searched_in backward_lengths ev) }

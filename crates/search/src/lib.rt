@@ -204,8 +204,5 @@ fn keep_better(
 fn accepted(found: Option<PhaseDecode>) -> Option<PhaseDecode>
     ensures { result ≡ accepted_of found }
 {
-    match found {
-        Some(decode) if MANCHESTER_RX_MIN_DECODED_BITS <= decode.bit_len => found,
-        _ => None,
-    }
+    found.filter(|decode| MANCHESTER_RX_MIN_DECODED_BITS <= decode.bit_len)
 }

@@ -45,10 +45,7 @@ pub extern "C" fn timed_search(samples: &[u8; DALI_RX_SAMPLE_BUF_LEN], sample_co
 {
     let window = SampleWindow::of_capture(samples, sample_count);
     let answer = BestPhaseSearch::new(SNIFFED_BIT_LENGTHS).run(window);
-    match answer.found {
-        Some(decode) => digest(decode),
-        None => 0,
-    }
+    answer.found.map_or(0, digest)
 }
 
 // The frame kind on top, then its bytes or its length.

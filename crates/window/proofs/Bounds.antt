@@ -8,6 +8,7 @@ use lib.IntN.{ℤ}
 use lib.ListN.{length, take}
 use lib.Seq.{get_or_at, length-take-le}
 use borrow.Author.Tests.{lt-ltb, le-ltb}
+use Rattle.std.proofs.lemmas.Option.{unwrap_or-slice_get}
 use Rattle.laws.specs.Packed.{packed}
 use Rattle.laws.specs.Pick.{pick}
 use Rattle.laws.proofs.Picked.{on_true, on_false}
@@ -16,22 +17,23 @@ use Rattle.window.specs.Window.{window_of, empty_window, tick_at, level_before, 
 use Rattle.window.specs.Phase.{centre, early, late, stride_around, bits_from, bits_of, phase_of}
 use Rattle.window.specs.Code.{byte_at}
 use Rattle.window.specs.Bounds.{PadReadsAsFE, HighBeforeNothing, AllSampleBits, SeventyThreeBits, EmptyWindows}
-use Rattle.window.proofs.Peeks.{two_bytes}
+use Rattle.window.proofs.Peeks.{byte_or_0, two_bytes}
 use Rattle.window.proofs.Turns.{stride_bounds, at_end}
 
 -- ---- the pad and what lies behind it
 module _ (samples : List ℕ) (count : ℕ) (few : count ≤ 64) (have : count ≤ length samples) where
-  pad : byte_at (window_of samples count) count 0 ≡ 255
+  pad : byte_or_0 (window_of samples count) count ≡ 255
   unfolding byte_at window_of
   pad =
       let n : min count 64 ≡ count = omega arith in
-      rw (n, on_true (lt-ltb count (count + 1) (omega arith))) (get_or_at (take count samples) 255 _ 0 count (length-take-le count samples have))
+      rw (n, on_true (lt-ltb count (count + 1) (omega arith)), unwrap_or-slice_get)
+      (get_or_at (take count samples) 255 _ 0 count (length-take-le count samples have))
 
-  behind : byte_at (window_of samples count) (count + 1) 0 ≡ 0
+  behind : byte_or_0 (window_of samples count) (count + 1) ≡ 0
   unfolding byte_at window_of
   behind = rw (on_false (le-ltb (count + 1) (min count 64 + 1) (omega arith)))
 
-a_tick_late : (w : SampleWindow) (p k : ℕ) → p / 8 ≡ k → p % 8 ≡ 1 → byte_at w k 0 ≡ 255 → byte_at w (k + 1) 0 ≡ 0
+a_tick_late : (w : SampleWindow) (p k : ℕ) → p / 8 ≡ k → p % 8 ≡ 1 → byte_or_0 w k ≡ 255 → byte_or_0 w (k + 1) ≡ 0
     → packed 2 8 (λ (i : ℕ). tick_at w (p + i)) ≡ 0xFE
 a_tick_late w p k place bit first second = sym (two_bytes w p (rw (place, second) (omega arith))) ∙ rw (place, bit, first, second)
 

@@ -7,9 +7,12 @@ use native.Mathlib.Decide.{dec_lt}
 use native.Mathlib.Nat.{zero-div, div-one, mul_assoc, mul_comm, add_comm, mul-add-div_right}
 use lib.Dec.{ltb}
 use lib.IntN.{ℤ, pos, negsuc, sub_ℕ, ◌+ℤ◌, +ℤ_comm}
-use lib.ListN.{get_or}
+use lib.ListN.{get_or, length}
 use lib.Pow.{high, low, pow-add, pow_pos, shr_lt, shr-shr, shr_mod, mod-pow-add, mod-mod-pow, field}
 use borrow.Author.Tests.{lt-ltb, le-ltb}
+use Rattle.std.specs.Prelude.{None, unwrap_or, slice_get}
+use Rattle.std.proofs.lemmas.Option.{unwrap_or-slice_get}
+use Rattle.std.proofs.lemmas.Grind.{get_or_default_zero}
 use Rattle.laws.specs.Packed.{packed}
 use Rattle.laws.specs.Pick.{pick}
 use Rattle.laws.proofs.Picked.{on_true, on_false}
@@ -39,14 +42,18 @@ pub moved : (p a m : ℕ) → pos p +ℤ sub_ℕ a m ≡ sub_ℕ (p + a) m
 moved p a m = +ℤ_comm (pos p) (sub_ℕ a m) ∙ further a m p ∙ ap (λ n. sub_ℕ n m) (omega arith)
 
 -- ---- a tick is a bit of its byte
-pub tick_is : (w : SampleWindow) (p : ℕ) → tick_at w p ≡ byte_at w (p / 8) 0 / 2 ^ (7 - p % 8) % 2
+-- byte k of the window, 0 past the pad
+abbrev pub byte_or_0 : SampleWindow → ℕ → ℕ
+byte_or_0 w k = unwrap_or (byte_at w k) 0
+
+pub tick_is : (w : SampleWindow) (p : ℕ) → tick_at w p ≡ byte_or_0 w (p / 8) / 2 ^ (7 - p % 8) % 2
 unfolding tick_at byte_at
 tick_is w p = go (ltb (p / 8) w.len) refl
   where
     go : (t : Bool) → ltb (p / 8) w.len ≡ t
         → pick (ltb (p / 8) w.len) (get_or w.bytes (p / 8) 0 / 2 ^ (7 - p % 8) % 2) 0
-        ≡ pick (ltb (p / 8) w.len) (get_or w.bytes (p / 8) 0) 0 / 2 ^ (7 - p % 8) % 2
-    go true e = simp (on_true e)
+        ≡ unwrap_or (pick (ltb (p / 8) w.len) (slice_get w.bytes (p / 8)) None) 0 / 2 ^ (7 - p % 8) % 2
+    go true e = simp (on_true e, unwrap_or-slice_get)
     go false e = simp (on_false e, zero-div)
 
 pick_lt : (t : Bool) (a b : ℕ) → a < 2 → b < 2 → pick t a b < 2
@@ -73,31 +80,31 @@ window_of_two first next r s e small =
     ∙ rw (high first s (shr_lt s r next_lt), low first s (shr_lt s r next_lt), shr_mod s r next_lt)
 
 module _ (w : SampleWindow) (p : ℕ) where
-  in_first : packed 2 (8 - p % 8) (λ (i : ℕ). tick_at w (p + i)) ≡ byte_at w (p / 8) 0 % 2 ^ (8 - p % 8)
+  in_first : packed 2 (8 - p % 8) (λ (i : ℕ). tick_at w (p + i)) ≡ byte_or_0 w (p / 8) % 2 ^ (8 - p % 8)
   in_first =
       let r = 8 - p % 8 in
-      packed_same 2 r (λ i. tick_at w (p + i)) (λ i. byte_at w (p / 8) 0 / 2 ^ (0 + (r - 1 - i)) % 2)
+      packed_same 2 r (λ i. tick_at w (p + i)) (λ i. byte_or_0 w (p / 8) / 2 ^ (0 + (r - 1 - i)) % 2)
       (λ i h. let q : (p + i) / 8 ≡ p / 8 = omega arith in let b : 7 - (p + i) % 8 ≡ 0 + (8 - p % 8 - 1 - i) = omega arith in tick_is w (p + i) ∙ rw (q, b))
-      ∙ packed_bits r 0 (byte_at w (p / 8) 0)
-      ∙ ap (λ x. x % 2 ^ r) (div-one (byte_at w (p / 8) 0))
+      ∙ packed_bits r 0 (byte_or_0 w (p / 8))
+      ∙ ap (λ x. x % 2 ^ r) (div-one (byte_or_0 w (p / 8)))
 
-  in_next : packed 2 (p % 8) (λ (i : ℕ). tick_at w (p + (8 - p % 8 + i))) ≡ byte_at w (p / 8 + 1) 0 / 2 ^ (8 - p % 8) % 2 ^ (p % 8)
+  in_next : packed 2 (p % 8) (λ (i : ℕ). tick_at w (p + (8 - p % 8 + i))) ≡ byte_or_0 w (p / 8 + 1) / 2 ^ (8 - p % 8) % 2 ^ (p % 8)
   in_next =
       let s = p % 8 in
-      packed_same 2 s (λ i. tick_at w (p + (8 - s + i))) (λ i. byte_at w (p / 8 + 1) 0 / 2 ^ (8 - s + (s - 1 - i)) % 2)
+      packed_same 2 s (λ i. tick_at w (p + (8 - s + i))) (λ i. byte_or_0 w (p / 8 + 1) / 2 ^ (8 - s + (s - 1 - i)) % 2)
       (λ i h. let q : (p + (8 - p % 8 + i)) / 8 ≡ p / 8 + 1 = omega arith in let b : 7 - (p + (8 - p % 8 + i)) % 8 ≡ 8 - p % 8 + (p % 8 - 1 - i) = omega arith in tick_is w (p + (8 - p % 8 + i)) ∙ rw (q, b))
-      ∙ packed_bits s (8 - s) (byte_at w (p / 8 + 1) 0)
+      ∙ packed_bits s (8 - s) (byte_or_0 w (p / 8 + 1))
 
   eight : packed 2 8 (λ (i : ℕ). tick_at w (p + i))
-      ≡ byte_at w (p / 8) 0 % 2 ^ (8 - p % 8) * 2 ^ (p % 8) + byte_at w (p / 8 + 1) 0 / 2 ^ (8 - p % 8) % 2 ^ (p % 8)
+      ≡ byte_or_0 w (p / 8) % 2 ^ (8 - p % 8) * 2 ^ (p % 8) + byte_or_0 w (p / 8 + 1) / 2 ^ (8 - p % 8) % 2 ^ (p % 8)
   eight =
       let e : 8 ≡ 8 - p % 8 + p % 8 = omega arith in
       ap (λ k. packed 2 k (λ (i : ℕ). tick_at w (p + i))) e
       ∙ packed_add 2 (8 - p % 8) (p % 8) (λ (i : ℕ). tick_at w (p + i))
       ∙ rw (in_first, in_next)
 
-  pub two_bytes : byte_at w (p / 8 + 1) 0 < 256
-      → (byte_at w (p / 8) 0 * 256 + byte_at w (p / 8 + 1) 0) / 2 ^ (8 - p % 8) % 256 ≡ packed 2 8 (λ (i : ℕ). tick_at w (p + i))
+  pub two_bytes : byte_or_0 w (p / 8 + 1) < 256
+      → (byte_or_0 w (p / 8) * 256 + byte_or_0 w (p / 8 + 1)) / 2 ^ (8 - p % 8) % 256 ≡ packed 2 8 (λ (i : ℕ). tick_at w (p + i))
   two_bytes small = window_of_two _ _ (8 - p % 8) (p % 8) (omega arith) small ∙ sym eight
 
 -- ---- ten ticks in three bytes
@@ -129,7 +136,7 @@ module _ (first second third : ℕ) (small : second < 256) (small' : third < 256
   of_third e h = in_lower (first * 256 + second) third e small' h
 
 three_bytes : (w : SampleWindow) (p first second third : ℕ)
-    → first ≡ byte_at w (p / 8) 0 → second ≡ byte_at w (p / 8 + 1) 0 → third ≡ byte_at w (p / 8 + 2) 0
+    → first ≡ byte_or_0 w (p / 8) → second ≡ byte_or_0 w (p / 8 + 1) → third ≡ byte_or_0 w (p / 8 + 2)
     → second < 256 → third < 256
     → ((first * 256 + second) * 256 + third) / 2 ^ (14 - p % 8) % 1024 ≡ packed 2 10 (λ (i : ℕ). tick_at w (p + i))
 three_bytes w p first second third e1 e2 e3 small small' =
@@ -140,7 +147,7 @@ three_bytes w p first second third e1 e2 e3 small small' =
     tick : (i : ℕ) → i < 10 → tick_at w (p + i) ≡ three first second third small small' / 2 ^ (14 - p % 8 + (10 - 1 - i)) % 2
     tick i h = tick_is w (p + i) ∙ go (dec_lt (p % 8 + i) 8) (dec_lt (p % 8 + i) 16)
       where
-        go : Dec (p % 8 + i < 8) → Dec (p % 8 + i < 16) → byte_at w ((p + i) / 8) 0 / 2 ^ (7 - (p + i) % 8) % 2 ≡ three first second third small small' / 2 ^ (14 - p % 8 + (10 - 1 - i)) % 2
+        go : Dec (p % 8 + i < 8) → Dec (p % 8 + i < 16) → byte_or_0 w ((p + i) / 8) / 2 ^ (7 - (p + i) % 8) % 2 ≡ three first second third small small' / 2 ^ (14 - p % 8 + (10 - 1 - i)) % 2
         go (yes a) b =
             let place : (p + i) / 8 ≡ p / 8 = omega arith in
             let bit : 14 - p % 8 + (10 - 1 - i) ≡ 16 + (7 - (p + i) % 8) = omega arith in
@@ -155,7 +162,7 @@ three_bytes w p first second third e1 e2 e3 small small' =
             rw (place, bit, ← e3) (sym (of_third first second third small small' (7 - (p + i) % 8) (omega arith)))
 
 pub ten : (w : SampleWindow) (p first second third : ℕ)
-    → first ≡ byte_at w (p / 8) 0 → second ≡ byte_at w (p / 8 + 1) 0 → third ≡ byte_at w (p / 8 + 2) 0 → second < 256 → third < 256
+    → first ≡ byte_or_0 w (p / 8) → second ≡ byte_or_0 w (p / 8 + 1) → third ≡ byte_or_0 w (p / 8 + 2) → second < 256 → third < 256
     → (first * 65536 + second * 256 + third) / 2 ^ (14 - p % 8) % 1024 ≡ ten_ticks w p
 unfolding ten_ticks
 ten w p first second third e1 e2 e3 small small' =
@@ -167,8 +174,8 @@ pub peek_past : (w : SampleWindow) (at : ℕ) → 128 ≤ at → w.len ≤ (at -
 unfolding peek_at
 peek_past w at h k = rw (from at h, on_false (le-ltb _ _ k))
 
-pub peek_within : (w : SampleWindow) (at first next : ℕ) → 128 ≤ at → (at - 128) / 8 < w.len → first ≡ byte_at w ((at - 128) / 8) 0
-    → next ≡ byte_at w ((at - 128) / 8 + 1) 0 → next < 256 → (first * 256 + next) / 2 ^ (8 - (at - 128) % 8) % 256 ≡ peek_at w (sub_ℕ at 128)
+pub peek_within : (w : SampleWindow) (at first next : ℕ) → 128 ≤ at → (at - 128) / 8 < w.len → first ≡ byte_or_0 w ((at - 128) / 8)
+    → next ≡ byte_or_0 w ((at - 128) / 8 + 1) → next < 256 → (first * 256 + next) / 2 ^ (8 - (at - 128) % 8) % 256 ≡ peek_at w (sub_ℕ at 128)
 unfolding peek_at
 peek_within w at first next h k e d small =
     rw (from at h, on_true (lt-ltb ((at - 128) / 8) w.len k), e, d) (two_bytes w (at - 128) (rw d at small))
@@ -199,13 +206,17 @@ together w at ticks h within e =
     )
 
 -- ---- peeks that begin before the start
-pub first_level : (w : SampleWindow) (b : ℕ) → b ≡ byte_at w 0 255 → b < 256 → b / 128 ≡ pick (ltb 0 w.len) (tick_at w 0) 1
+pub first_level : (w : SampleWindow) (b : ℕ) → length w.bytes ≡ 66 → b ≡ unwrap_or (byte_at w 0) 255 → b < 256
+    → b / 128 ≡ pick (ltb 0 w.len) (tick_at w 0) 1
 unfolding byte_at tick_at
-first_level w b e small = go (ltb 0 w.len) refl
+first_level w b full e small = go (ltb 0 w.len) refl
   where
     go : (t : Bool) → ltb 0 w.len ≡ t → b / 128 ≡ pick (ltb 0 w.len) (pick (ltb 0 w.len) (get_or w.bytes 0 0 / 128 % 2) 0) 1
-    go true h = simp (on_true h) (let d : b ≡ get_or w.bytes 0 0 = e ∙ simp (on_true h) in rw (← d) (omega arith))
-    go false h = simp (on_false h) (rw (e ∙ on_false h (get_or w.bytes 0 0) 255))
+    go true h =
+        let first = unwrap_or-slice_get w.bytes 0 255 ∙ get_or_default_zero w.bytes 0 255 (omega arith) in
+        let d : b ≡ get_or w.bytes 0 0 = e ∙ simp (on_true h) first in
+        simp (on_true h) (rw (← d) (omega arith))
+    go false h = simp (on_false h) (rw (e ∙ ap (λ o. unwrap_or o 255) (on_false h (slice_get w.bytes 0) None)))
 
 -- what a tick of a peek before the start is read by
 pub ruleset levels = (before, from, tick_is, first_level)

@@ -1,5 +1,5 @@
 -- Document 01, "Window" and "One phase": what the private functions promise. No public promise cites this file. Assumes nothing.
-use Rattle.std.specs.Prelude.{ℕ, ◌+◌, ◌-◌, ◌*◌, ◌/◌, ◌%◌, ◌^◌, min, ltb, eqb, ℤ, length, get_or, Option, Some, None}
+use Rattle.std.specs.Prelude.{ℕ, ◌+◌, ◌-◌, ◌*◌, ◌/◌, ◌%◌, ◌^◌, min, ltb, eqb, ℤ, length, slice_get, Option, Some, None}
 use Rattle.std.proofs.Math.IntN.{sub_ℕ}
 use Rattle.laws.specs.Packed.{packed}
 use Rattle.laws.specs.Pick.{pick}
@@ -12,9 +12,9 @@ use Rattle.window.specs.declared.Reading.{Reading}
 use Rattle.window.specs.Window.{tick_at, peek_at}
 use Rattle.window.specs.Phase.{peek_of, weight_around, stride_around, PhaseBits, failed, weighed, score_of, stored_bits, data_bit}
 
--- byte k of the window, or `past` if it lies past the pad
-unfoldable pub byte_at : SampleWindow → ℕ → ℕ → ℕ
-byte_at w k past = pick (ltb k w.len) (get_or w.bytes k 0) past
+-- byte k of the window, none past the pad
+unfoldable pub byte_at : SampleWindow → ℕ → Option ℕ
+byte_at w k = pick (ltb k w.len) (slice_get w.bytes k) None
 
 -- ten ticks from position p on as one number, the first on top
 unfoldable pub ten_ticks : SampleWindow → ℕ → ℕ

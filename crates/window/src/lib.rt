@@ -47,6 +47,7 @@ const MOST_SAMPLE_BITS: u16 = DALI_RX_SAMPLE_BUF_LEN as u16 * WINDOW_BITS_PER_SA
 // No peek begins more than 128 ticks before the start. The code counts positions from there, so that none is negative.
 const EARLIEST: u16 = 128;
 
+// The Rust's own enum.
 #[derive(Drop)]
 enum PeekStop {
     None,
@@ -146,15 +147,15 @@ impl SampleWindow {
         }
     }
 
-    // Byte number `pos` of the window, or `past` if it lies past the pad.
+    // Byte number `pos` of the window. Past the pad there is none.
     #[tactic(auto, unfolding(crate::specs::Code::byte_at, laws::specs::Pick::pick))]
-    fn byte(&self, pos: u16, past: u8) -> u8
-        ensures { result ≡ byte_at self.now pos past }
+    fn byte(&self, pos: u16) -> Option<u8>
+        ensures { result ≡ byte_at self.now pos }
     {
         if self.len <= pos {
-            return past;
+            return None;
         }
-        self.bytes.get(pos as usize).copied().unwrap_or(0)
+        self.bytes.get(pos as usize).copied()
     }
 
     // One tick of a peek that begins before the start.
@@ -163,13 +164,13 @@ impl SampleWindow {
         ensures { result ≡ level_before self.now (sub_ℕ at 128) }
     {
         if at < EARLIEST {
-            return self.byte(0, PEEK_IDLE) / 128;
+            return self.byte(0).unwrap_or(PEEK_IDLE) / 128;
         }
         let bitpos = at - EARLIEST;
         if self.bits <= bitpos {
             return 1;
         }
-        (self.byte(bitpos / 8, 0) >> (7 - bitpos % 8)) % 2
+        (self.byte(bitpos / 8).unwrap_or(0) >> (7 - bitpos % 8)) % 2
     }
 
     fn peek_before_start(&self, at: u16) -> u8
@@ -183,7 +184,7 @@ impl SampleWindow {
         sample
     }
 
-    // Eight ticks from a position on, the first on top.
+    // Eight ticks from a position on, the first on top. The bound on it keeps the sums within 16 bits, here and in the next three functions.
     #[tactic(auto, using(crate::proofs::Peeks::peek_past, crate::proofs::Peeks::peek_within))]
     fn peek8(&self, at: u16) -> u8
         requires { at ≤ 1000 }
@@ -197,8 +198,8 @@ impl SampleWindow {
         if self.len <= pos {
             return PEEK_IDLE;
         }
-        let first = self.byte(pos, 0) as u16;
-        let next = self.byte(pos + 1, 0) as u16;
+        let first = self.byte(pos).unwrap_or(0) as u16;
+        let next = self.byte(pos + 1).unwrap_or(0) as u16;
         (((first * 256 + next) >> (8 - shifted % 8)) % 256) as u8
     }
 
@@ -209,9 +210,9 @@ impl SampleWindow {
         ensures { result ≡ ten_ticks self.now bitpos }
     {
         let pos = bitpos / 8;
-        let first = self.byte(pos, 0) as u32;
-        let second = self.byte(pos + 1, 0) as u32;
-        let third = self.byte(pos + 2, 0) as u32;
+        let first = self.byte(pos).unwrap_or(0) as u32;
+        let second = self.byte(pos + 1).unwrap_or(0) as u32;
+        let third = self.byte(pos + 2).unwrap_or(0) as u32;
         let ticks = first * 65_536 + second * 256 + third;
         ((ticks >> (14 - bitpos % 8)) % 1024) as u16
     }
@@ -321,6 +322,7 @@ fn stride(centre: u8, early: u8, late: u8) -> u16
     if centre < early { 7 } else { 8 }
 }
 
+// The Rust's match. It is a function by itself, since a definition names it.
 #[tactic(auto, unfolding(crate::specs::Code::stop_of, laws::specs::Pick::pick))]
 fn stop_of(sample: u8) -> PeekStop
     ensures { result ≡ stop_of sample }
