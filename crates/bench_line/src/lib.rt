@@ -134,7 +134,7 @@ impl BenchLine {
         (number as usize) < self.stations_on()
     }
 
-    // Past the four places `at` reads a new station, and `with` changes nothing.
+    // Past the four places `at` reads a new station, as the definition does, and `with` changes nothing. So both go by index.
 
     fn at(self, number: u8) -> DaliBitbangPhy
         ensures { result ≡ station_at self number }

@@ -107,7 +107,7 @@ fn half_bits(bits: u8, bytes: [u8; 3]) -> u64
     all << (54 - 2 * bits)
 }
 
-// Writes the seven bytes of the store. Later bytes of the buffer stay.
+// Writes the seven bytes of the store. Later bytes of the buffer stay. After `iter_mut().take(7)` a proof knows no byte, so the places are counted.
 fn put_store(all: u64, out: &mut [u8])
     requires { 7 ≤ length out.old }
     ensures { out.new ≡ bytes_in all ++ drop 7 out.old }
