@@ -17,7 +17,7 @@ line_error_number NoStation = 9
 line_error_number BadCount = 10
 
 -- ---- each answer with its number; 0 is no refusal
--- No station refuses a poll or a take.
+-- These are the answers of all calls but a start. Only the line refuses them.
 unfoldable pub line_number : {A : Type 0} → Result A LineError → ℕ
 line_number (Ok answer) = 0
 line_number (Err e) = line_error_number e

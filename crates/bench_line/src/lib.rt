@@ -83,12 +83,9 @@ fn level_left(stations: [DaliBitbangPhy; MAX_STATIONS], count: usize) -> bool
     requires { count ≤ 4 }
     ensures { result ≡ level_left count stations }
 {
-    for i in 0..count {
-        if !stations[i].driven_high() {
-            return false;
-        }
-    }
-    true
+    stations[..count]
+        .iter()
+        .all(|station| station.driven_high())
 }
 
 #[tactic(auto, unfolding(crate::specs::Refusals::is_count, laws::specs::Pick::pick))]
@@ -134,15 +131,15 @@ impl BenchLine {
         (number as usize) < self.stations_on()
     }
 
-    // Past the four places `at` reads a new station, and `with` changes nothing.
+    // Past the four places `at` reads a new station, and `with` changes nothing. After `get_mut` a proof knows no station, so `with` compares.
 
     fn at(self, number: u8) -> DaliBitbangPhy
         ensures { result ≡ station_at self number }
     {
-        if (number as usize) < MAX_STATIONS {
-            return self.stations[number as usize];
-        }
-        DaliBitbangPhy::new()
+        self.stations
+            .get(number as usize)
+            .copied()
+            .unwrap_or(DaliBitbangPhy::new())
     }
 
     fn with(mut self, number: u8, station: DaliBitbangPhy) -> BenchLine

@@ -161,6 +161,7 @@ fn done(_: ()) -> Reply {
     Reply::Ok
 }
 
+// The three bytes are told apart here. In the arm that would lend a part of a variant, which the check does not cover.
 fn encode(bits: u8, [first, second, third]: [u8; 3]) -> Result<HalfBitBuffer, EncodeError> {
     HalfBitBuffer::encode(bits, first, second, third)
 }

@@ -1,5 +1,6 @@
 // The call protocol over the proved functions: one command a line on standard input, one answer a line on standard output. Only safety is proved of
-// this program. `commands` reads a line as a command, field by field by `operands`; `kept` carries it out, and `reply` writes the answer.
+// this program. `commands` reads a line as a command, field by field by `operands`; `kept` carries it out, and `reply` writes the answer. `bytes` has
+// the buffer that commands and answers keep bytes in.
 #![tactic(auto)]
 
 mod bytes;
@@ -21,7 +22,7 @@ const ANSWERS_ROOM: usize = 65_536;
 // Past this place the answers are written out, so that the next always has room. No answer has more than 2,100 bytes.
 const NEARLY_FULL: usize = ANSWERS_ROOM - 4_096;
 
-// Answers wait here until they are written.
+// Answers wait here until they are written. Memory is fixed, so the length stands beside the room.
 #[derive(Drop)]
 struct Answers {
     text: [u8; ANSWERS_ROOM],

@@ -18,7 +18,7 @@ pub fn tick(station: &mut DaliBitbangPhy, bus_is_high: bool) -> bool
 }
 
 // For a caller that holds a station by value. It chooses one of the two forms, in place or copied, and gets the station back after the tick. There is
-// no third form, so a flag says as much as a closure would.
+// no third form, so a flag says as much as a closure would. `timed_ticks`, which the clock calls, takes the form in place.
 pub fn tick_lent(mut station: DaliBitbangPhy, bus_is_high: bool, in_place: bool) -> Ticked
     ensures { result ≡ ticked station bus_is_high }
 {

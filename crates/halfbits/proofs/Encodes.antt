@@ -1,7 +1,7 @@
 -- The encoder's frame: the first bits of its three bytes. Assumes nothing.
 use mathlib.Core.Path.{◌≡◌, refl, sym, ◌∙◌, ap, subst}
 use mathlib.Core.Bool.{Bool, true, false}
-use mathlib.Core.List.{List, [], ◌∷◌, ◌++◌}
+use mathlib.Core.List.{List, [], ◌∷◌, ◌++◌, append-nil}
 use Prim.Native.Nat.{ℕ, ◌≤◌}
 use native.Mathlib.Omega.{arith}
 use lib.Dec.{eqb, leb}
@@ -47,11 +47,9 @@ module _ (first second third : ℕ) where
       → out ≡ bytes_in all ++ others → out ≡ store_of (frame_bits (frame_of n first second third)) ++ others
   stored n all others out h e f = f ∙ rw (e, bits_are n h, bytes_are (frame_bits (frame_of n first second third)))
 
-  -- and seven alone
-  pub stored_alone : (n all : ℕ) (out : List ℕ) → is_bit_count n ≡ true → all ≡ half_bits (tabulate n (bit_at (first ∷ second ∷ third ∷ [])))
-      → out ≡ bytes_in all ++ [] → out ≡ store_of (frame_bits (frame_of n first second third))
-  unfolding store_of tabulate
-  stored_alone n all out h e f = stored n all [] out h e f
+-- seven bytes alone
+pub none_behind : (bytes : List ℕ) → bytes ++ [] ≡ bytes
+none_behind bytes = append-nil bytes
 
 -- ---- the two forms
 pub forms_agree : FormsAgree

@@ -37,20 +37,14 @@ impl HalfBitBuffer {
     pub const MAX_DATA_HALF_BITS: u8 = 54;
 
     // The buffer that a start takes, for a frame of 8, 16 or 24 bits. The encoder ignores the bytes that the frame doesn't need.
-    #[tactic(auto, using(crate::proofs::Encodes::few, crate::proofs::Encodes::stored_alone, crate::proofs::Encodes::as_many), unfolding(crate::specs::Encoding::encoded_of, crate::specs::Encoding::encode_answer_number, crate::specs::Encoding::encode_number, crate::specs::HalfBits::buffer_of, laws::specs::Pick::pick))]
+    #[tactic(auto, using(crate::proofs::Encodes::as_many, crate::proofs::Encodes::none_behind), unfolding(crate::specs::Encoding::encoded_of, crate::specs::Encoding::answer_of, crate::specs::Encoding::written_to, crate::specs::Encoding::encode_answer_number, crate::specs::Encoding::encode_number, crate::specs::HalfBits::buffer_of, laws::specs::Pick::pick))]
     pub fn encode(bits: u8, first: u8, second: u8, third: u8) -> Result<HalfBitBuffer, EncodeError>
         ensures value { result ≡ encoded_of bits (frame_of bits first second third) }
         ensures answer_value { encode_answer_number result ≡ encode_number (is_bit_count bits) true }
     {
-        if !is_bit_count(bits) {
-            return Err(EncodeError::BadBitCount);
-        }
         let mut data = [0; HalfBitBuffer::DATA_LEN];
-        put_store(half_bits(bits, [first, second, third]), &mut data);
-        Ok(HalfBitBuffer {
-            data,
-            length: length_of(bits),
-        })
+        let length = encode_into(bits, first, second, third, &mut data)?;
+        Ok(HalfBitBuffer { data, length })
     }
 }
 
@@ -107,7 +101,7 @@ fn half_bits(bits: u8, bytes: [u8; 3]) -> u64
     all << (54 - 2 * bits)
 }
 
-// Writes the seven bytes of the store. Later bytes of the buffer stay.
+// Writes the seven bytes of the store. Later bytes of the buffer stay. After `iter_mut().take(7)` a proof knows no byte, so the places are counted.
 fn put_store(all: u64, out: &mut [u8])
     requires { 7 ≤ length out.old }
     ensures { out.new ≡ bytes_in all ++ drop 7 out.old }

@@ -81,7 +81,7 @@ pub enum CollisionPolicy {
     On = 2,
 }
 
-// Nobody calls these three: their promises say what number each case has.
+// Nobody calls these three: their promises say what number each case has. A cast has no trait, so each enum has its own.
 
 fn bus_state_number(bus_state: BusState) -> u8
     ensures { result ≡ bus_state_number bus_state }
@@ -168,7 +168,8 @@ pub struct Core {
     pub runs: Runs,
 }
 
-// Counters stop at their limit. A sum takes fewer steps than the choice of std's saturating_add, and a loop over ticks shows it.
+// Counters stop at their limit. A sum takes fewer steps than the choice of std's saturating_add, and a loop over ticks shows it. The two widths
+// make two functions, since one for both would need a trait with laws.
 
 pub fn saturating_inc16(x: u16) -> u16
     ensures { result ≡ min (x + 1) 65535 }
@@ -395,7 +396,8 @@ impl Core {
         self
     }
 
-    // Whether this tick of Tx only goes on with a half-bit, as most ticks do.
+    // Whether this tick of Tx only goes on with a half-bit, as most ticks do. The tests are those of `tick_tx`, told apart so that a lent tick that
+    // holds stores one group.
     #[tactic(auto, unfolding(crate::specs::Sending::tx_step, crate::specs::Sending::is_hold, laws::specs::Pick::pick))]
     pub fn holds(self, tx_hb: TxHb, bus_is_high: bool) -> bool
         ensures { result ≡ is_hold (tx_step self.tx self.collision_policy tx_hb bus_is_high) }

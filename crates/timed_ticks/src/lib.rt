@@ -84,10 +84,7 @@ pub extern "C" fn timed_ticks(levels: &[u8; LEVELS], passes: u32, sends: bool) -
 {
     let mut station = DaliBitbangPhy::new();
     let mut sum: u64 = 0;
-    // Each sum takes the number of passes that are left, so the loop counts down.
-    let mut left = passes;
-    while left != 0 {
-        left -= 1;
+    for left in (0..passes).rev() {
         let pass = one_pass(sends, station, levels);
         station = pass.station;
         sum = sum_of(sum, left, pass);

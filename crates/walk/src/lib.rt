@@ -1,2 +1,2 @@
-// Proof steps for functions that change what they are lent, whose proofs are written by hand. This crate has no code.
+// Laws of how code changes what it is lent. No function's proof needs them today. This crate has no code.
 #![tactic(auto)]

@@ -6,6 +6,3 @@ use Rattle.timed_ticks.proofs.timed_ticks.Given as goal
 
 abbrev pub invariant-loop-left : goal.invariant-loop-left
 invariant-loop-left l = timed_from l.sends l.levels l.left l.station l.sum ≡ timed_from l.sends l.levels l.passes new_station 0
-
-abbrev pub decreases-loop-left : goal.decreases-loop-left
-decreases-loop-left l = l.left
