@@ -26,6 +26,7 @@ fn negative(digits: &[u8]) -> Option<i8>
     Some(minus(number))
 }
 
+// The negative of 128 fits a byte and 128 does not, so the sign is set in a wider number.
 fn minus(number: u8) -> i8
     requires { number ≤ 128 }
     ensures { result ≡ neg_ℤ (pos number) }
