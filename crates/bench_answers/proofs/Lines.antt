@@ -1,7 +1,7 @@
 -- Laws of the answer lines: how they are written in parts, and how long they are at most. Assumes nothing.
 use Prim.Native.Nat.{ℕ, suc, ◌+◌, ◌^◌, ◌≤◌, ◌<◌}
 use native.Mathlib.Omega.{arith}
-use mathlib.Core.Bool.{Bool, true, false}
+use mathlib.Core.Bool.{Bool, true}
 use mathlib.Core.List.{List, [], ◌∷◌, ◌++◌, append_assoc}
 use mathlib.Core.Path.{◌≡◌, ap, ◌∙◌}
 use lib.ListN.{length, length-append}
@@ -17,7 +17,7 @@ use Rattle.text.specs.Hex.{hex_of, hexes_of}
 use Rattle.text.specs.Writing.{room_at, place_after, buffer_after}
 use Rattle.text.proofs.DecimalDigits.{length_decimal}
 use Rattle.text.proofs.SignedLaws.{length_signed}
-use Rattle.text.proofs.WritingLaws.{Past, stored, written, unwritten, enough, too_little, then as stored_then}
+use Rattle.text.proofs.WritingLaws.{Past, stored, written, enough, then as stored_then}
 use Rattle.rx_decode.specs.declared.SniffedFrame.{SniffedFrame}
 use Rattle.rx_decode.specs.declared.SniffedFrame.TheVariants.{Forward16, Backward8, Forward24, UnsupportedLength, DecodeFailed}
 use Rattle.rx_decode.specs.contracts.SniffedFrame.{the_field}
@@ -56,9 +56,6 @@ Line most text place before after next =
     (next ≡ place_after most text place before) × ((after ≡ buffer_after most text place before) × (next ≤ place + most))
 
 module _ (most : ℕ) (text : List ℕ) (place : ℕ) (before : List ℕ) {test : Bool} (e : test ≡ room_at most place before) where
-  pub no_line : test ≡ false → Line most text place before before place
-  no_line t = let w = unwritten most text place before (too_little most place before e t) in (w.0, (w.1, omega arith))
-
   pub line : test ≡ true → length text ≤ most → {after : List ℕ} {next : ℕ} → Wrote text place before after next → Line most text place before after next
   line t short w =
       let room = enough most place before e t in

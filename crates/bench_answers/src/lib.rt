@@ -48,6 +48,7 @@ pub struct Counts {
 }
 
 // Writes the answer to a good line.
+#[tactic(auto, using(text::proofs::WritingLaws::room_tests))]
 pub fn put_row(out: &mut [u8], at: usize, number: u32, capture: Capture, reading: Reading) -> usize
     ensures value { result ≡ place_after row_max (row_text number capture reading) at out.old }
     ensures out_after { out.new ≡ buffer_after row_max (row_text number capture reading) at out.old }
@@ -68,6 +69,7 @@ pub fn put_row(out: &mut [u8], at: usize, number: u32, capture: Capture, reading
 }
 
 // Writes the answer to a refused line.
+#[tactic(auto, using(text::proofs::WritingLaws::room_tests))]
 pub fn put_bad(out: &mut [u8], at: usize, number: u32, refusal: Refusal) -> usize
     ensures value { result ≡ place_after bad_max (bad_text number refusal) at out.old }
     ensures out_after { out.new ≡ buffer_after bad_max (bad_text number refusal) at out.old }
@@ -82,6 +84,7 @@ pub fn put_bad(out: &mut [u8], at: usize, number: u32, refusal: Refusal) -> usiz
 }
 
 // Writes the last line.
+#[tactic(auto, using(text::proofs::WritingLaws::room_tests))]
 pub fn put_end(out: &mut [u8], at: usize, counts: Counts) -> usize
     ensures value { result ≡ place_after end_max (end_text counts) at out.old }
     ensures out_after { out.new ≡ buffer_after end_max (end_text counts) at out.old }

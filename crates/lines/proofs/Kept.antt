@@ -14,7 +14,7 @@ use Rattle.text.specs.Letters.{lf}
 use Rattle.text.specs.Fields.{bytes_before}
 use Rattle.text.specs.Writing.{place_past, buffer_with}
 use Rattle.text.proofs.FieldLaws.{mark_end}
-use Rattle.text.proofs.WritingLaws.{unwritten, stored}
+use Rattle.text.proofs.WritingLaws.{place_stays, buffer_stays, stored}
 use Rattle.lines.specs.declared.Lines.{Lines}
 use Rattle.lines.specs.Lines.{line_room, held_by, extended, part_from, ends_from, taken}
 
@@ -62,8 +62,9 @@ kept_put lines bytes whole {text} t {count} {after} p b = split (dec_lt line_roo
 
     split : Dec (line_room < lines.len) → held_by after count ≡ extended lines bytes
     split (yes over) =
-        let none = unwritten (length text) text lines.len lines.held (lt-leb (lines.len + length text) (length lines.held) (omega arith)) in
-        same (b ∙ sym none.1) (p ∙ sym none.0) ∙ sym (kept_full lines bytes (omega arith))
+        let none = lt-leb (lines.len + length text) (length lines.held) (omega arith) in
+        same (b ∙ buffer_stays _ text lines.len lines.held none) (p ∙ place_stays _ text lines.len lines.held none)
+        ∙ sym (kept_full lines bytes (omega arith))
     split (no within) =
         let put = stored (length text) text lines.len lines.held (omega (arith, size)) (p, b) in
         same (put.1 ∙ ap (sets lines.held lines.len) t) (omega (arith, put.0, size))

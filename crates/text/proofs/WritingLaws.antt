@@ -13,7 +13,6 @@ use borrow.Rule.Slice.PartMut.{put_mid}
 use borrow.Author.Tests.{le-leb, lt-leb, leb-true}
 use Rattle.laws.proofs.Picked.{on_true, on_false}
 use Rattle.text.specs.Writing.{room_at, place_after, buffer_after}
-use Rattle.text.specs.Code.{Put}
 
 -- ---- what a writer tells
 -- a text was stored in `before` from a place on and nothing else was, which left `after`; `next` is the place past it
@@ -28,13 +27,6 @@ Written room text place before after next = (next ≡ place_after room text plac
 abbrev pub Past : List ℕ → ℕ → List ℕ → List ℕ → ℕ → Type 0
 Past text place before after next = Written (length text) text place before after next
 
-module _ (text : List ℕ) (place : ℕ) (before : List ℕ) {after : List ℕ} {next : ℕ} where
-  pub put_of : Past text place before after next → Put text place before after next
-  put_of w = record { past = w.0; left = w.1 }
-
-  pub told : Put text place before after next → Past text place before after next
-  told p = (p.past, p.left)
-
 -- ---- the room
 -- a difference that does not fall below 0 is tested as a sum
 pub without : (a b n : ℕ) → b ≤ n → leb a (n - b) ≡ leb (a + b) n
@@ -45,23 +37,33 @@ without a b n h = split (dec_lt (n - b) a)
     split (no within) = le-leb a (n - b) (omega arith) ∙ sym (le-leb (a + b) n (omega arith))
 
 -- what a test of the room says
-module _ (room place : ℕ) (buffer : List ℕ) {test : Bool} (e : test ≡ room_at room place buffer) where
-  pub enough : test ≡ true → place + room ≤ length buffer
-  enough t = leb-true (place + room) (length buffer) (sym e ∙ t)
-
-  pub too_little : test ≡ false → room_at room place buffer ≡ false
-  too_little t = sym e ∙ t
+pub enough : (room place : ℕ) (buffer : List ℕ) {test : Bool} → test ≡ room_at room place buffer → test ≡ true → place + room ≤ length buffer
+enough room place buffer e t = leb-true (place + room) (length buffer) (sym e ∙ t)
 
 -- ---- a text where there is room, and where there is none
 module _ (room : ℕ) (text : List ℕ) (place : ℕ) (buffer : List ℕ) where
+  pub place_moves : room_at room place buffer ≡ true → place_after room text place buffer ≡ place + length text
+  unfolding place_after
+  place_moves t = on_true t _ _
+
+  pub buffer_filled : room_at room place buffer ≡ true → buffer_after room text place buffer ≡ sets buffer place text
+  unfolding buffer_after
+  buffer_filled t = on_true t _ _
+
+  pub place_stays : room_at room place buffer ≡ false → place_after room text place buffer ≡ place
+  unfolding place_after
+  place_stays t = on_false t _ _
+
+  pub buffer_stays : room_at room place buffer ≡ false → buffer_after room text place buffer ≡ buffer
+  unfolding buffer_after
+  buffer_stays t = on_false t _ _
+
   module _ (fits : place + room ≤ length buffer) where
     pub place_fits : place_after room text place buffer ≡ place + length text
-    unfolding place_after
-    place_fits = on_true (le-leb (place + room) (length buffer) fits) _ _
+    place_fits = place_moves (le-leb (place + room) (length buffer) fits)
 
     pub buffer_fits : buffer_after room text place buffer ≡ sets buffer place text
-    unfolding buffer_after
-    buffer_fits = on_true (le-leb (place + room) (length buffer) fits) _ _
+    buffer_fits = buffer_filled (le-leb (place + room) (length buffer) fits)
 
     pub stored : {after : List ℕ} {next : ℕ} → Written room text place buffer after next → Stored text place buffer after next
     stored w = (w.0 ∙ place_fits, w.1 ∙ buffer_fits)
@@ -69,9 +71,8 @@ module _ (room : ℕ) (text : List ℕ) (place : ℕ) (buffer : List ℕ) where
     pub written : {after : List ℕ} {next : ℕ} → Stored text place buffer after next → Written room text place buffer after next
     written s = (s.0 ∙ sym place_fits, s.1 ∙ sym buffer_fits)
 
-  pub unwritten : room_at room place buffer ≡ false → Written room text place buffer buffer place
-  unfolding place_after buffer_after
-  unwritten over = (sym (on_false over _ _), sym (on_false over _ _))
+-- what a writer does by its test of the room
+pub ruleset room_tests = (place_moves, buffer_filled, place_stays, buffer_stays)
 
 -- ---- one text behind another
 -- in one run of stores

@@ -86,6 +86,7 @@ fn hex_digit(value: u8) -> u8
 }
 
 // Writes each byte as two digits.
+#[tactic(auto, using(crate::proofs::WritingLaws::room_tests, crate::proofs::HexLaws::length_hexes))]
 pub fn put_hex(out: &mut [u8], at: usize, bytes: &[u8]) -> usize
     ensures value { result ≡ place_past (hexes_of bytes.now) at out.old }
     ensures out_after { out.new ≡ buffer_with (hexes_of bytes.now) at out.old }
@@ -104,6 +105,7 @@ pub fn put_hex(out: &mut [u8], at: usize, bytes: &[u8]) -> usize
 
 // Writes the last `width` hex digits of a number. No program calls it; `ReadBack` speaks of what it promises. Decimals have a loop of their own: one
 // for both would have to be told base, digits and definition.
+#[tactic(auto, using(crate::proofs::WritingLaws::room_tests, crate::proofs::HexLaws::length_hex_digits))]
 pub fn put_hex_digits(out: &mut [u8], at: usize, number: u64, width: usize) -> usize
     ensures value { result ≡ place_past (hex_digits_of width number) at out.old }
     ensures out_after { out.new ≡ buffer_with (hex_digits_of width number) at out.old }

@@ -47,6 +47,7 @@ pub fn put_signed(out: &mut [u8], at: usize, number: i8) -> usize
 }
 
 // Writes a minus and then the digits, if there is room for both.
+#[tactic(auto, using(crate::proofs::WritingLaws::room_tests))]
 fn put_below_zero(out: &mut [u8], at: usize, digits: u32) -> usize
     ensures value { result ≡ place_past (minus_and digits) at out.old }
     ensures out_after { out.new ≡ buffer_with (minus_and digits) at out.old }

@@ -9,6 +9,7 @@ pub fn has_room(len: usize, at: usize, bytes: usize) -> bool
     bytes <= len && at <= len - bytes
 }
 
+#[tactic(auto, using(crate::proofs::WritingLaws::room_tests))]
 pub fn put_byte(out: &mut [u8], at: usize, byte: u8) -> usize
     ensures value { result ≡ place_past (byte ∷ []) at out.old }
     ensures out_after { out.new ≡ buffer_with (byte ∷ []) at out.old }
@@ -20,6 +21,7 @@ pub fn put_byte(out: &mut [u8], at: usize, byte: u8) -> usize
     at + 1
 }
 
+#[tactic(auto, using(crate::proofs::WritingLaws::room_tests))]
 pub fn put_text(out: &mut [u8], at: usize, text: &[u8]) -> usize
     ensures value { result ≡ place_past text.now at out.old }
     ensures out_after { out.new ≡ buffer_with text.now at out.old }

@@ -1,13 +1,8 @@
 -- `bench_answers::put_bad` meets its contract. Assumes nothing.
 use native.Mathlib.Omega.{arith}
 use Rattle.text.specs.Letters.{word}
-use Rattle.bench_answers.proofs.Lines.{put, then, no_line, line, bad_parts, bad_short}
+use Rattle.bench_answers.proofs.Lines.{put, then, line, bad_parts, bad_short}
 use Rattle.bench_answers.proofs.put_bad.Goals as goal
-
-pub returns-then-not-has_room : goal.returns-then-not-has_room
-returns-then-not-has_room c =
-    let l = no_line _ _ _ _ c.has_room.ensures c.if-not-has_room.true in
-    record { value = l.0; out_after = l.1.0; upper_bound = l.1.1 }
 
 pub returns : goal.returns
 returns c =

@@ -4,13 +4,8 @@ use mir.Syntax.{w8}
 use mir.ValLaws.{to_z-of_z}
 use Rattle.text.specs.Letters.{word}
 use Rattle.text.specs.Signed.{signed_of}
-use Rattle.bench_answers.proofs.Lines.{put, then, no_line, line, row_parts, row_short, phase_fits}
+use Rattle.bench_answers.proofs.Lines.{put, then, line, row_parts, row_short, phase_fits}
 use Rattle.bench_answers.proofs.put_row.Goals as goal
-
-pub returns-then-not-has_room : goal.returns-then-not-has_room
-returns-then-not-has_room c =
-    let l = no_line _ _ _ _ c.has_room.ensures c.if-not-has_room.true in
-    record { value = l.0; out_after = l.1.0; upper_bound = l.1.1 }
 
 pub returns : goal.returns
 returns c =

@@ -1,26 +1,17 @@
 -- `text::signed::put_below_zero` meets its contract. Assumes nothing.
 use mathlib.Core.List.{[], ◌∷◌}
-use mathlib.Core.Path.{◌≡◌}
 use Prim.Native.Nat.{◌+◌, ◌≤◌}
 use native.Mathlib.Omega.{arith}
 use lib.ListN.{length}
 use Rattle.text.specs.Letters.{minus}
 use Rattle.text.specs.Decimals.{decimal_of}
 use Rattle.text.specs.Code.{minus_and}
-use Rattle.text.proofs.WritingLaws.{enough, too_little, unwritten, written, stored, then}
+use Rattle.text.proofs.WritingLaws.{enough, written, stored, then}
 use Rattle.text.proofs.DecimalDigits.{length_decimal}
 use Rattle.text.proofs.signed.put_below_zero.Goals as goal
 
 pub overflow_add-places : goal.overflow_add-places
 overflow_add-places c = let h = length_decimal 10 9 c.args.digits (omega arith) in record { fits = omega (arith, h, c.places.ensures) }
-
-pub returns-then-not-has_room : goal.returns-then-not-has_room
-returns-then-not-has_room c =
-    let a = c.args in
-    let over = too_little _ a.at a.out.now c.has_room.ensures c.if-not-has_room.true in
-    let long : length (minus_and a.digits) ≡ 1 + c.places.result = omega (arith, c.places.ensures) in
-    let none = unwritten (length (minus_and a.digits)) (minus_and a.digits) a.at a.out.now (rw long over) in
-    record { value = none.0; out_after = none.1 }
 
 pub returns : goal.returns
 returns c =
