@@ -402,29 +402,20 @@ impl DaliBitbangPhy {
         ensures value { result ≡ polled self }
         ensures says_poll { SaysPoll result.answer self }
     {
-        if self.core.told.tx_yielded {
+        let answer = if self.core.told.tx_yielded {
             self.core.told.tx_yielded = false;
-            return Answered {
-                station: self,
-                answer: TxPollResult::Yielded,
-            };
-        }
-        if self.core.told.tx_collision != 0 {
+            TxPollResult::Yielded
+        } else if self.core.told.tx_collision != 0 {
             self.core.told.tx_collision = 0;
-            return Answered {
-                station: self,
-                answer: TxPollResult::Collision,
-            };
-        }
-        if self.bus_state() == BusState::Tx {
-            return Answered {
-                station: self,
-                answer: TxPollResult::Transmitting,
-            };
-        }
+            TxPollResult::Collision
+        } else if self.bus_state() == BusState::Tx {
+            TxPollResult::Transmitting
+        } else {
+            TxPollResult::Ok
+        };
         Answered {
             station: self,
-            answer: TxPollResult::Ok,
+            answer,
         }
     }
 
@@ -499,10 +490,7 @@ impl DaliBitbangPhy {
         ensures { result ≡ acknowledged self }
     {
         if self.rx_state() == RxState::Completed {
-            self.core.told = Told {
-                rx_state: RxState::Empty,
-                ..self.core.told
-            };
+            self.core.told.rx_state = RxState::Empty;
         }
         self
     }
