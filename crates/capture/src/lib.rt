@@ -67,7 +67,7 @@ impl Samples {
         byte_in(self.words(), at)
     }
 
-    // The loop writes each byte by its index. After `iter_mut` a proof knows no byte.
+    // The loop writes each byte by its index: after `iter_mut().enumerate()` a proof knows no byte.
     pub fn bytes(self) -> [u8; DALI_RX_SAMPLE_BUF_LEN]
         ensures { result ≡ bytes_of self }
     {

@@ -66,7 +66,7 @@ pub(crate) fn places(number: u32) -> usize
     count
 }
 
-// Writes the last `count` digits of a number. It writes by index, since after `iter_mut` a proof knows no byte.
+// Writes the last `count` digits of a number. It writes by index, since after `iter_mut().rev()` a proof knows no byte.
 #[tactic(auto, using(crate::proofs::WritingLaws::room_tests, crate::proofs::DecimalDigits::length_digits))]
 fn put_digits(out: &mut [u8], at: usize, count: usize, number: u32) -> usize
     ensures { Put (digits count number) at out.old out.new result }

@@ -34,7 +34,8 @@ fn is_hex(field: &[u8], count: usize) -> bool
     all_hex(field)
 }
 
-// Fills the buffer from a field that has two hex digits for each of its bytes. This file writes by index: after `iter_mut` a proof knows no byte.
+// Fills the buffer from a field that has two hex digits for each of its bytes. This file writes by index: after an
+// adapter of `iter_mut`, as `enumerate`, a proof knows no byte.
 fn fill(field: &[u8], bytes: &mut [u8])
     requires { (length field.now ≡ 2 * length bytes.old) × (all_hex field.now ≡ true) }
     ensures { bytes.new ≡ bytes_of field.now }
