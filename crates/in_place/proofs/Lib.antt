@@ -1,4 +1,5 @@
 pub mod Leaves
+pub mod Ways
 pub mod Lent
 pub mod Values
 pub mod Known

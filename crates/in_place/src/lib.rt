@@ -10,7 +10,6 @@ use fsm::{BusState, DaliBitbangPhy, RX_IDLE_LINE_HIGH_TICKS};
 // compiled tick then loads only what its way needs, while one read for all ways would load nearly all of the core. The ways that most ticks take
 // store only the group that they change. The end of a capture stores a whole station, since the fields of the last event are private to `fsm`. The
 // compiled tick copies no station even there.
-#[tactic(auto, using(machine::proofs::Holding::is_hold_lem), unfolding(fsm::specs::Ticking::ticked, fsm::specs::Ticking::tick_of, fsm::specs::Ticking::tick_in, fsm::specs::Rx::rx_tick, fsm::specs::Rx::filled, fsm::specs::Rx::went_on, fsm::specs::Rx::notified, machine::specs::Runs::runs_counted, machine::specs::Idle::silent, machine::specs::Idle::idle_tick, machine::specs::Sending::tx_tick, machine::specs::Sending::after_step, machine::specs::Sending::held, laws::specs::Pick::pick))]
 pub fn tick(station: &mut DaliBitbangPhy, bus_is_high: bool) -> bool
     ensures station_after { station.new ≡ (ticked station.old bus_is_high).station }
     ensures value { result ≡ (ticked station.old bus_is_high).driven_high }
