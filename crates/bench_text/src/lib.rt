@@ -65,11 +65,12 @@ pub fn parse_line(text: &[u8]) -> Result<Capture, Refusal>
     if fields::count(text, b'\t') != 4 || !words::is(fields::field(text, b'\t', 0), b"C") {
         return Err(Refusal::NotFourFields);
     }
+    // Each field is found only where it is read, so that a refused line is not looked through further.
     let silence_field = fields::field(text, b'\t', 1);
-    let count_field = fields::field(text, b'\t', 2);
-    let samples_field = fields::field(text, b'\t', 3);
     let silence = decimals::read_byte(silence_field, SILENCE_MAX).ok_or(Refusal::BadNumber)?;
+    let count_field = fields::field(text, b'\t', 2);
     let count = decimals::read_byte(count_field, COUNT_MAX).ok_or(Refusal::BadNumber)?;
+    let samples_field = fields::field(text, b'\t', 3);
     let mut samples = [0u8; DALI_RX_SAMPLE_BUF_LEN];
     if !hex::read_hex(samples_field, &mut samples[..count as usize]) {
         return Err(Refusal::BadSamples);

@@ -13,7 +13,7 @@ use borrow.Author.Tests.{lt-ltb, le-ltb, ltb-true, le-leb, lt-leb, eq-eqb, eqb-t
 use Rattle.laws.specs.Pick.{pick}
 use Rattle.laws.proofs.Below.{below}
 use Rattle.laws.proofs.Picked.{on_true, on_false}
-use Rattle.std.specs.Prelude.{Option, Some, None, is_some}
+use Rattle.std.specs.Prelude.{Option, Some, None, unwrap_or}
 use Rattle.std.specs.List.{list_all}
 use Rattle.text.specs.Letters.{letter}
 use Rattle.text.specs.Decimals.{is_digit}
@@ -72,15 +72,16 @@ module _ (byte : ℕ) where
 
 pub ruleset hex_digits = (hex_decimal, hex_letter, hex_low, hex_between, hex_high)
 
-some_step : (t : Bool) (value : ℕ) → is_some (pick t (Some value) None) ≡ t
+-- what stands for no digit is 16, as in the definition of a digit's value
+or_step : (t : Bool) (value : ℕ) → ltb value 16 ≡ t → ltb (unwrap_or (pick t (Some value) None) 16) 16 ≡ t
 unfolding pick
-some_step true value = refl
-some_step false value = refl
+or_step true value e = e
+or_step false value e = refl
 
-pub all_some : (field : List ℕ) → list_all (λ byte. is_some (hex_digit_in byte)) field ≡ all_hex field
+pub all_below : (field : List ℕ) → list_all (λ byte. ltb (unwrap_or (hex_digit_in byte) 16) 16) field ≡ all_hex field
 unfolding all_hex hex_digit_in
-all_some [] = refl
-all_some (byte ∷ field) = rw (some_step (ltb (digit_value byte) 16) (digit_value byte), all_some field)
+all_below [] = refl
+all_below (byte ∷ field) = rw (or_step (ltb (digit_value byte) 16) (digit_value byte) refl, all_below field)
 
 -- ---- a turn of the loop over the digits
 module _ (f : List ℕ) (i : ℕ) where
@@ -117,6 +118,10 @@ length_bytes (top ∷ (low ∷ f)) = omega (arith, length_bytes f)
 pub known_digit : (byte : ℕ) {r : Option ℕ} → r ≡ hex_digit_in byte → digit_value byte < 16 → r ≡ Some (digit_value byte)
 unfolding hex_digit_in
 known_digit byte e small = e ∙ on_true (lt-ltb (digit_value byte) 16 small) _ _
+
+-- and what is computed in place of its value if it were none
+pub known_value : (byte : ℕ) {r : Option ℕ} → r ≡ hex_digit_in byte → digit_value byte < 16 → (value : ℕ) → value ≡ unwrap_or r 16 → value ≡ digit_value byte
+known_value byte e small value v = v ∙ ap (λ (r : Option ℕ). unwrap_or r 16) (known_digit byte e small)
 
 pair : (h : List ℕ) (i : ℕ) → 2 * i + 1 < length h → drop (2 * i) h ≡ get_or h (2 * i) 0 ∷ (get_or h (2 * i + 1) 0 ∷ drop (2 * (i + 1)) h)
 pair h i more =

@@ -6,6 +6,10 @@ ghost use Rattle.text.specs.Code.{hex_digit_in};
 
 use crate::writing;
 
+// What stands for a byte that is no digit in the two loops over the digits of a field. With an Option for each byte they take more time
+// (docs/LOOK-BACK.md).
+const NO_DIGIT: u8 = 16;
+
 // The value of a hex digit. Decimals have digits and a reader of their own, since range, base and definition differ.
 #[tactic(auto, using(crate::proofs::HexLaws::hex_digits))]
 fn digit_value(byte: u8) -> Option<u8>
@@ -21,7 +25,9 @@ fn digit_value(byte: u8) -> Option<u8>
 fn all_hex(field: &[u8]) -> bool
     ensures { result ≡ all_hex field.now }
 {
-    field.iter().all(|byte| digit_value(*byte).is_some())
+    field
+        .iter()
+        .all(|byte| digit_value(*byte).unwrap_or(NO_DIGIT) < NO_DIGIT)
 }
 
 // Whether the field is two hex digits for each of `count` bytes, and nothing else.
@@ -41,8 +47,8 @@ fn fill(field: &[u8], bytes: &mut [u8])
     ensures { bytes.new ≡ bytes_of field.now }
 {
     for i in 0..bytes.len() {
-        let high = digit_value(field[2 * i]).unwrap();
-        let low = digit_value(field[2 * i + 1]).unwrap();
+        let high = digit_value(field[2 * i]).unwrap_or(NO_DIGIT);
+        let low = digit_value(field[2 * i + 1]).unwrap_or(NO_DIGIT);
         bytes[i] = high * 16 + low;
     }
 }
@@ -104,8 +110,7 @@ pub fn put_hex(out: &mut [u8], at: usize, bytes: &[u8]) -> usize
     end
 }
 
-// Writes the last `width` hex digits of a number. No program calls it; `ReadBack` speaks of what it promises. Decimals have a loop of their own: one
-// for both would have to be told base, digits and definition.
+// Writes the last `width` hex digits of a number. Decimals have a loop of their own: one for both would have to be told base, digits and definition.
 #[tactic(auto, using(crate::proofs::WritingLaws::room_tests, crate::proofs::HexLaws::length_hex_digits))]
 pub fn put_hex_digits(out: &mut [u8], at: usize, number: u64, width: usize) -> usize
     ensures value { result ≡ place_past (hex_digits_of width number) at out.old }

@@ -12,7 +12,7 @@ pub fn is(field: &[u8], word: &[u8]) -> bool
 }
 
 // The place of the field among the words, counted from 0. If it is none of them, the answer is the number of words. A space stands between each two.
-// It is no `split`, since an empty text has no word. No program calls it.
+// It is no `split`, since an empty text has no word.
 pub fn place(field: &[u8], words: &[u8]) -> usize
     ensures { result ≡ place_among field.now (words_of words.now) }
 {

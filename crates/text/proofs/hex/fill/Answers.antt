@@ -1,30 +1,31 @@
 -- `text::hex::fill` meets its contract. Assumes nothing.
 use native.Mathlib.Omega.{arith}
-use Rattle.text.proofs.HexLaws.{bytes_on, top_small, low_small, still_hex, all_spelled, known_digit, hex_read}
+use Rattle.text.proofs.HexLaws.{bytes_on, top_small, low_small, still_hex, all_spelled, known_value}
 use Rattle.text.proofs.hex.fill.Goals as goal
 
-pub unwrap-high-requires : goal.unwrap-high-requires
-unwrap-high-requires c = let at = c.loop-i in rw (known_digit _ c.digit_value.ensures (top_small _ at.i (omega arith) at.invariant.hex))
-
-pub unwrap-low-requires : goal.unwrap-low-requires
-unwrap-low-requires c = let at = c.loop-i in rw (known_digit _ c.digit_value-in-loop-i.ensures (low_small _ at.i (omega arith) at.invariant.hex))
-
 pub overflow_mul-bytes : goal.overflow_mul-bytes
-overflow_mul-bytes c = let high = hex_read _ c.digit_value.ensures _ c.unwrap-high.ensures in record { fits = omega arith }
+overflow_mul-bytes c =
+    let at = c.loop-i in
+    let top = top_small _ at.i (omega arith) at.invariant.hex in
+    let high = known_value _ c.digit_value.ensures top _ c.unwrap_or-high.ensures in
+    record { fits = omega arith }
 
 pub overflow_add-bytes : goal.overflow_add-bytes
 overflow_add-bytes c =
-    let high = hex_read _ c.digit_value.ensures _ c.unwrap-high.ensures in
-    let low = hex_read _ c.digit_value-in-loop-i.ensures _ c.unwrap-low.ensures in
+    let at = c.loop-i in
+    let top = top_small _ at.i (omega arith) at.invariant.hex in
+    let under = low_small _ at.i (omega arith) at.invariant.hex in
+    let high = known_value _ c.digit_value.ensures top _ c.unwrap_or-high.ensures in
+    let low = known_value _ c.digit_value-in-loop-i.ensures under _ c.unwrap_or-low.ensures in
     record { fits = omega arith }
 
 pub loop-i-preserved : goal.loop-i-preserved
 loop-i-preserved c =
     let at = c.loop-i in
-    let high = hex_read _ c.digit_value.ensures _ c.unwrap-high.ensures in
-    let low = hex_read _ c.digit_value-in-loop-i.ensures _ c.unwrap-low.ensures in
+    let high = known_value _ c.digit_value.ensures (top_small _ at.i (omega arith) at.invariant.hex) _ c.unwrap_or-high.ensures in
+    let low = known_value _ c.digit_value-in-loop-i.ensures (low_small _ at.i (omega arith) at.invariant.hex) _ c.unwrap_or-low.ensures in
     record {
-      filled = bytes_on c.args.field.now at.i (omega arith) _ _ high.1 low.1 at.bytes (omega arith) at.invariant.filled;
+      filled = bytes_on c.args.field.now at.i (omega arith) _ _ high low at.bytes (omega arith) at.invariant.filled;
       hex = still_hex _ at.i (omega arith) at.invariant.hex;
     }
 
