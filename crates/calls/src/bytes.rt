@@ -1,8 +1,13 @@
 // Bytes of any number, as far as a line has room for their hex.
+ghost use Rattle.std.specs.Str.{IsAscii};
+
 use std::fmt;
-use text::fields;
+use text::{fields, hex};
 
 pub(crate) const BYTES_ROOM: usize = 1_024;
+
+// The hex of so many bytes is written at once.
+const AT_ONCE: usize = 64;
 
 // Memory is fixed, so the length stands beside the room.
 #[derive(Clone, Copy)]
@@ -61,7 +66,7 @@ impl fmt::Display for ByteString {
     }
 }
 
-// Two digits for each byte, or `-` for no bytes.
+// Two digits for each byte, or `-` for no bytes. `text` writes them, since it promises what they are, and a format promises nothing.
 #[derive(Clone, Copy)]
 pub(crate) struct Hex<'a>(pub(crate) &'a [u8]);
 
@@ -70,9 +75,38 @@ impl fmt::Display for Hex<'_> {
         if self.0.is_empty() {
             return write!(f, "-");
         }
-        for byte in self.0 {
-            write!(f, "{byte:02x}")?;
+        for bytes in self.0.chunks(AT_ONCE) {
+            write_hex(f, bytes)?;
         }
         Ok(())
     }
+}
+
+// A number that is written as sixteen hex digits.
+#[derive(Clone, Copy)]
+pub(crate) struct Digits(pub(crate) u64);
+
+impl fmt::Display for Digits {
+    fn fmt<W: fmt::Write>(&self, f: &mut fmt::Formatter<W>) -> fmt::Result {
+        write_digits(f, self.0)
+    }
+}
+
+// Of more than `AT_ONCE` bytes it writes none.
+fn write_hex<W: fmt::Write>(f: &mut fmt::Formatter<W>, bytes: &[u8]) -> fmt::Result {
+    let mut digits = [0; 2 * AT_ONCE];
+    let end = hex::put_hex(&mut digits, 0, bytes);
+    f.write_str(as_text(fields::first(&digits, end)))
+}
+
+fn write_digits<W: fmt::Write>(f: &mut fmt::Formatter<W>, number: u64) -> fmt::Result {
+    let mut digits = [0; 16];
+    let end = hex::put_hex_digits(&mut digits, 0, number, 16);
+    f.write_str(as_text(fields::first(&digits, end)))
+}
+
+fn as_text(digits: &[u8]) -> &str
+    requires { IsAscii digits.now }
+{
+    str::from_utf8(digits).unwrap()
 }

@@ -6,9 +6,9 @@ use halfbits::HalfBitBuffer;
 use lengths::BitLengths;
 use search::BestPhaseSearch;
 use text::decimals::{read_byte, read_number};
-use text::fields;
 use text::hex::{read_hex, read_hex_number};
 use text::signed::read_signed;
+use text::{fields, words};
 use window::{PhaseDecode, SampleWindow};
 
 // A line, and the place in it from which on nothing is read yet. One space stands between each two fields.
@@ -87,13 +87,16 @@ impl<'a> Operands<'a> {
         Some(BestPhaseSearch::new(self.lengths()?))
     }
 
+    // `text` promises what the place of a word is, so these three are looked up by it; a `match` would promise nothing.
     pub(crate) fn policy(&mut self) -> Option<CollisionPolicy> {
-        match self.field()? {
-            b"auto" => Some(CollisionPolicy::Auto),
-            b"off" => Some(CollisionPolicy::Off),
-            b"on" => Some(CollisionPolicy::On),
-            _ => None,
-        }
+        let policies = [
+            CollisionPolicy::Auto,
+            CollisionPolicy::Off,
+            CollisionPolicy::On,
+        ];
+        policies
+            .get(words::place(self.field()?, b"auto off on"))
+            .copied()
     }
 
     fn bytes<const N: usize>(&mut self) -> Option<[u8; N]> {

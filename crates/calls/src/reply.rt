@@ -1,5 +1,5 @@
 // The reply to a command, and how it is written.
-use crate::bytes::{ByteString, Hex};
+use crate::bytes::{ByteString, Digits, Hex};
 use bench_line::LineError;
 use event::RxCompletedEvent;
 use fsm::{BusState, DaliBitbangPhy, RxState, StartError, TxPollResult};
@@ -91,7 +91,7 @@ impl fmt::Display for Reply {
             Reply::Step(step) => write!(f, "{}", Shown(step)),
             Reply::Steps(search, count, window) => steps(f, search, count, window),
             Reply::Sniffed(decode) => write!(f, "{}", Shown(decode)),
-            Reply::Backward(Some(byte)) => write!(f, "byte {byte:02x}"),
+            Reply::Backward(Some(byte)) => write!(f, "byte {}", Hex(&[byte])),
             Reply::Backward(None) => write!(f, "none"),
             Reply::Encoded(buffer) => write!(f, "{} {}", buffer.length, Hex(&buffer.data)),
             Reply::EncodedInto(Ok(length), buffer) => write!(f, "{length} {buffer}"),
@@ -199,8 +199,11 @@ impl fmt::Display for Shown<PhaseDecode> {
         let decode = self.0;
         write!(
             f,
-            "{} {} {} {:016x}",
-            decode.bit_len, decode.phase_ticks, decode.score, decode.data
+            "{} {} {} {}",
+            decode.bit_len,
+            decode.phase_ticks,
+            decode.score,
+            Digits(decode.data)
         )
     }
 }
@@ -234,10 +237,10 @@ impl fmt::Display for Shown<SniffedDecode> {
     fn fmt<W: fmt::Write>(&self, f: &mut fmt::Formatter<W>) -> fmt::Result {
         let decode = self.0;
         match decode.frame {
-            SniffedFrame::Backward8(byte) => write!(f, "B8 {byte:02x}")?,
-            SniffedFrame::Forward16(bits) => write!(f, "F16 {bits:04x}")?,
+            SniffedFrame::Backward8(byte) => write!(f, "B8 {}", Hex(&[byte]))?,
+            SniffedFrame::Forward16(bits) => write!(f, "F16 {}", Hex(&bits.to_be_bytes()))?,
             SniffedFrame::Forward24(first, second, third) => {
-                write!(f, "F24 {first:02x}{second:02x}{third:02x}")?
+                write!(f, "F24 {}", Hex(&[first, second, third]))?
             }
             SniffedFrame::UnsupportedLength(length) => write!(f, "LEN {length}")?,
             SniffedFrame::DecodeFailed => write!(f, "FAIL -")?,
