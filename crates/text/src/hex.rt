@@ -6,8 +6,8 @@ ghost use Rattle.text.specs.Code.{hex_digit_in};
 
 use crate::writing;
 
-// What stands for a byte that is no digit in the two loops over the digits of a field. With an Option for each byte they take more time
-// (docs/LOOK-BACK.md).
+// What stands for a byte that is no digit in the two loops over the digits of a field. A branch on an Option at each byte takes more
+// time (docs/LOOK-BACK.md).
 const NO_DIGIT: u8 = 16;
 
 // The value of a hex digit. Decimals have digits and a reader of their own, since range, base and definition differ.
